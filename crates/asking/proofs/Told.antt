@@ -1,19 +1,12 @@
 -- What the step at a place is refused by, told by the outcome that it comes to.
-use mathlib.Core.Path.{_≡_, refl, ap, sym, _∙_}
-use mathlib.Core.Bool.{false, cond}
-use mathlib.Core.List.{List}
+use mathlib.Core.{Path.{_≡_, refl, ap, sym, _∙_}, Bool.{false, cond}, List.List}
 use Prim.Native.Nat.{ℕ}
 use lib.{Dec.eqb, ListN.getD}
 use borrow.Author.Tests.{eqb-true, eqb-false}
-use Rattle.model.specs.declared.{Control.Control, Call.Call, Transition.Transition}
-use Rattle.model.specs.Tables.{Tables, atPlace, tablesOf}
-use Rattle.model.specs.{Sound.from1, Kinds.isPush}
-use Rattle.model.specs.Places.{wordFound}
-use Rattle.model.specs.Refusals.{stepSound}
-use Rattle.model.specs.Calls.{Acted, finish}
+use Rattle.model.specs.{declared.{Control.Control, Call.Call, Transition.Transition}, Sound.from1, Kinds.isPush}
+use Rattle.model.specs.{Tables.{Tables, atPlace, tablesOf}, Places.wordFound, Refusals.stepSound, Calls.{Acted, finish}}
 use Rattle.model.proofs.tests.Truth.{split, either}
-use Rattle.decide.specs.Ending.{settled, compared, changeRefused}
-use Rattle.decide.specs.declared.touched.LinkWord.{LinkWord}
+use Rattle.decide.specs.{Ending.{settled, compared, changeRefused}, declared.touched.LinkWord.LinkWord}
 use Rattle.decide.specs.Decided.{madeOf, ownEnd, new2, new4, new10, link3, link7, found3, found9, found11, found14}
 use Rattle.places.specs.Arm.{stepAt}
 use Rattle.places.proofs.Anchors as anchors

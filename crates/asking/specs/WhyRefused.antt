@@ -1,11 +1,8 @@
 -- What a step is refused by for what it touches, as the code asks it.
 use mathlib.Core.Bool.{cond}
 use Prim.Native.Nat.{ℕ}
-use Rattle.model.specs.declared.{Control.Control, Call.Call, Outcome.Outcome}
-use Rattle.model.specs.declared.Outcome.the-variants.{Refused, Moved}
-use Rattle.model.specs.Tables.{Tables}
-use Rattle.model.specs.Places.{wordFound}
-use Rattle.model.specs.Refusals.{stepSound}
+use Rattle.model.specs.declared.{Control.Control, Call.Call, Outcome.{Outcome, the-variants.{Refused, Moved}}}
+use Rattle.model.specs.{Tables.Tables, Places.wordFound, Refusals.stepSound}
 use Rattle.decide.specs.Ending.{changeRefused}
 
 -- The number of a refusal; 0: it is none.

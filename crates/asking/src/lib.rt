@@ -13,13 +13,10 @@ use places::links;
 use places::pool;
 use sound::Lengths;
 use sound::admission;
-ghost use mathlib.Core.Path.{_≡_};
-ghost use mathlib.Core.List.{List};
+ghost use mathlib.Core.{Path._≡_, List.List};
 ghost use Prim.Native.Nat.{ℕ};
 ghost use lib.Dec.{leb, ltb};
-ghost use Rattle.model.specs.Tables.{tablesOf};
-ghost use Rattle.model.specs.Places.{row};
-ghost use Rattle.model.specs.Refusals.{stepRefusal};
+ghost use Rattle.model.specs.{Tables.tablesOf, Places.row, Refusals.stepRefusal};
 ghost use Rattle.asking.specs.WhyRefused.{whyNot, whyUnchanged, touchRefusal};
 
 /// The slot whose row or mark the record's place touches, at 17 the one that it gives back; 0: none.

@@ -1,16 +1,10 @@
 -- The numbers of a list as marks of one word: a number is new to the list where its mark is clear.
-use mathlib.Core.Bool.{not}
-use mathlib.Core.List.{List, [], _∷_}
-use mathlib.Core.Path.{_≡_, refl, ap, _∙_}
+use mathlib.Core.{Bool.not, List.{List, [], _∷_}, Path.{_≡_, refl, ap, _∙_}}
 use Prim.Native.Nat.{ℕ, _-_, _/_, _%_, _^_, _≤_}
-use native.Mathlib.Decide.{ℕ-discrete}
-use native.Mathlib.Nat.{zero-div}
-use native.Mathlib.Omega.{arith}
-use lib.Dec.{eqb}
-use lib.ListN.{length, getD}
+use native.Mathlib.{Decide.ℕ-discrete, Nat.zero-div, Omega.arith}
+use lib.{Dec.eqb, ListN.{length, getD}}
 use borrow.Author.Tests.{eq-eqb, ne-eqb}
-use Rattle.model.specs.Tables.{marked, withMark}
-use Rattle.model.proofs.bridge.Marks.{marked-other, marked-same}
+use Rattle.model.{specs.Tables.{marked, withMark}, proofs.bridge.Marks.{marked-other, marked-same}}
 use Rattle.audit_model.specs.Audit.{allOf, differ}
 
 abbrev pub Listed : List ℕ → List ℕ → Type 0

@@ -1,15 +1,11 @@
 -- The first position that stands too early, by the least answer event of those behind it.
-use mathlib.Core.Bool.{Bool, _&&_, cond}
-use mathlib.Core.List.{List, [], _∷_}
-use mathlib.Core.Path.{_≡_, sym, ap, _∙_}
+use mathlib.Core.{Bool.{Bool, _&&_, cond}, List.{List, [], _∷_}, Path.{_≡_, sym, ap, _∙_}}
 use Prim.Native.Nat.{ℕ, suc, _+_, _≤_, min}
 use native.Mathlib.Omega.{arith}
-use lib.Dec.{leb, ltb}
-use lib.ListN.{length}
+use lib.{Dec.{leb, ltb}, ListN.length}
 use borrow.Author.Tests.{le-leb, le-ltb, leb-false, leb-true, lt-ltb}
 use Rattle.model.proofs.tests.Truth.{agree, and-of, and-true, either, split}
-use Rattle.audit_model.specs.declared.Finished.{Finished}
-use Rattle.audit_model.specs.Audit.{allOf, inOrder, notEarlier, numbered}
+use Rattle.audit_model.specs.{declared.Finished.Finished, Audit.{allOf, inOrder, notEarlier, numbered}}
 use Rattle.audit.specs.FirstMisplaced.{firstMisplaced}
 
 abbrev pub leastEnd : List Finished → ℕ

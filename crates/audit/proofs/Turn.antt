@@ -1,15 +1,10 @@
 -- One turn of the replay, at index i of the order: call c with the calls behind it, from queue q. No position before `first` stands too early.
-use mathlib.Core.Bool.{Bool, true, false, _&&_, cond}
-use mathlib.Core.List.{List, _∷_}
-use mathlib.Core.Path.{_≡_, refl}
+use mathlib.Core.{Bool.{Bool, true, false, _&&_, cond}, List.{List, _∷_}, Path.{_≡_, refl}}
 use Prim.Native.Nat.{ℕ, suc, _+_, _<_}
-use native.Mathlib.Numerals.{add-one}
-use native.Mathlib.Omega.{arith}
+use native.Mathlib.{Numerals.add-one, Omega.arith}
 use Rattle.model.proofs.tests.Truth.{split}
-use Rattle.audit_model.specs.declared.Finished.{Finished}
-use Rattle.audit_model.specs.declared.Verdict.the-variants.{Failed}
+use Rattle.audit_model.specs.{declared.{Finished.Finished, Verdict.the-variants.Failed}, Laws.answers}
 use Rattle.audit_model.specs.Audit.{allOf, gives, notEarlier, replay}
-use Rattle.audit_model.specs.Laws.{answers}
 use Rattle.audit.specs.FirstMisplaced.{firstMisplaced}
 
 module _ (c : Finished) (rest : List Finished) (i first : ℕ) (is : i + firstMisplaced (c ∷ rest) ≡ first) where

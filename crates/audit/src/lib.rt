@@ -10,14 +10,11 @@ mod order;
 
 use audit_model::Verdict;
 use audit_model::VerdictReply;
-ghost use mathlib.Core.Bool.{true};
-ghost use mathlib.Core.List.{[]};
-ghost use mathlib.Core.Path.{_≡_};
+ghost use mathlib.Core.{Bool.true, List.[], Path._≡_};
 ghost use Prim.Native.Nat.{_/_, _≤_};
 ghost use lib.ListN.{length};
 ghost use Rattle.model.specs.Sound.{from1};
-ghost use Rattle.audit_model.specs.Audit.{allOf, inOrder, replay, verdict};
-ghost use Rattle.audit_model.specs.LentHistory.{callsIn, verdictReply};
+ghost use Rattle.audit_model.specs.{Audit.{allOf, inOrder, replay, verdict}, LentHistory.{callsIn, verdictReply}};
 ghost use Rattle.audit.specs.FirstMisplaced.{firstMisplaced};
 
 // The calls up to the first position that stands too early, which fails whatever it answers.

@@ -1,13 +1,10 @@
 //! The claimed order, looked at from its end: whether it names every call once, and its first position that stands too early.
 use crate::calls;
-ghost use mathlib.Core.Bool.{true, cond};
-ghost use mathlib.Core.Path.{_≡_};
+ghost use mathlib.Core.{Bool.{true, cond}, Path._≡_};
 ghost use Prim.Native.Nat.{_/_, _≤_, min};
-ghost use lib.Dec.{ltb};
-ghost use lib.ListN.{length};
+ghost use lib.{Dec.ltb, ListN.length};
 ghost use Rattle.model.specs.Sound.{from1};
-ghost use Rattle.audit_model.specs.Audit.{allOf, inOrder, rearranges};
-ghost use Rattle.audit_model.specs.LentHistory.{callsIn};
+ghost use Rattle.audit_model.specs.{Audit.{allOf, inOrder, rearranges}, LentHistory.callsIn};
 ghost use Rattle.audit.specs.FirstMisplaced.{firstMisplaced};
 
 fn known(k: u64, most: u64) -> bool

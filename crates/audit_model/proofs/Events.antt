@@ -1,29 +1,21 @@
 -- After an opening: no two of the positions where calls started or were answered are equal, and each side is left or right.
-use mathlib.Core.Bool.{Bool, true, false, _&&_, cond}
-use mathlib.Core.List.{List, [], _∷_}
-use mathlib.Core.Logic.{_≢_}
+use mathlib.Core.{Bool.{Bool, true, false, _&&_, cond}, List.{List, [], _∷_}, Logic._≢_}
 use mathlib.Core.Path.{_≡_, refl, sym, ap, _∙_, subst}
 use Prim.Native.Nat.{ℕ, suc, _<_, _≤_}
 use native.Mathlib.Omega.{arith}
 use lib.Dec.{eqb}
 use borrow.Author.Tests.{eqb-true}
-use Rattle.model.specs.declared.{Answer.Answer, Entry.Entry, Op.Op}
-use Rattle.model.specs.declared.Answer.the-variants.{Running, Pushed, Empty, Popped, NoFreeSlot}
-use Rattle.model.specs.declared.Op.the-variants.{Push, Pop, PushPooled, Step}
+use Rattle.model.specs.{declared.Answer.{Answer, the-variants.{Running, Pushed, Empty, Popped, NoFreeSlot}}, Lists.All}
+use Rattle.model.specs.declared.{Entry.Entry, Op.{Op, the-variants.{Push, Pop, PushPooled, Step}}}
 use Rattle.model.specs.Calls.{Acted, Done, act, actOn, back, finish, popStart, pushStart, pushPooledStart, step}
 use Rattle.model.specs.Refusals.{among, popRefusal, pushRefusal, pushPooledRefusal, stepRefusal}
-use Rattle.model.specs.Tables.{Queue, recordAt}
-use Rattle.model.specs.History.{LedgerCall, Effect, Ending, Event, Ledger, Request, answered, pending}
-use Rattle.model.specs.History.{accept, attend, begins, continued, ended, isEffect, isOpen, ledgerFrom, note, over, run, stepOf}
-use Rattle.model.proofs.tests.Truth.{by-test}
-use Rattle.model.proofs.bridge.Accepted.{pop-accepted, push-accepted, push-pooled-accepted}
+use Rattle.model.{specs.Tables.{Queue, recordAt}, proofs.tests.Truth.by-test}
+use Rattle.model.specs.History.{LedgerCall, Effect, Ending, Event, Ledger, Request, answered, pending, accept, attend}
+use Rattle.model.specs.History.{begins, continued, ended, isEffect, isOpen, ledgerFrom, note, over, run, stepOf}
+use Rattle.model.proofs.bridge.{Accepted.{pop-accepted, push-accepted, push-pooled-accepted}, View.stateOf}
+use Rattle.model.proofs.ledger.{EveryOperation.act-good, Matches.opens, Matched.{Matched, busyNo}}
 use Rattle.model.proofs.machine.Machine as M
-use Rattle.model.proofs.bridge.View.{stateOf}
-use Rattle.model.proofs.ledger.{EveryOperation.act-good, Matches.opens}
-use Rattle.model.proofs.ledger.Matched.{Matched, busyNo}
-use Rattle.model.specs.Lists.{All}
-use Rattle.audit_model.proofs.Lists.{Pairs, all-map, all-both}
-use Rattle.audit_model.proofs.Replayed.{attend-all}
+use Rattle.audit_model.proofs.{Lists.{Pairs, all-map, all-both}, Replayed.attend-all}
 
 -- Answered before position n, if answered; not answered at n.
 abbrev pub EndsBefore : ℕ → Ending → Type 0

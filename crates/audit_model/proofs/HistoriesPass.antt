@@ -1,28 +1,22 @@
 -- A list of demand 3 with at most 64 calls, all answered, passes when it is written with its places as events and its effects as the order.
-use mathlib.Core.Bool.{Bool, true}
-use mathlib.Core.List.{List, [], _∷_, map, map-map}
-use mathlib.Core.Path.{_≡_, refl, sym, ap, _∙_, subst}
+use mathlib.Core.{Bool.{Bool, true}, List.{List, [], _∷_, map, map-map}, Path.{_≡_, refl, sym, ap, _∙_, subst}}
 use Prim.Native.Nat.{ℕ, suc, _≤_}
 use native.Mathlib.Omega.{arith}
 use lib.ListN.{length, length-map}
 use borrow.Author.Tests.{eq-eqb, le-leb, ne-eqb}
-use Rattle.model.specs.declared.Entry.{Entry}
-use Rattle.model.specs.{Calls.opened, Refusals.openRefusal, Sound.from1, Tables.Queue, Lists.All}
+use Rattle.model.specs.{declared.Entry.Entry, Calls.opened, Refusals.openRefusal, Sound.from1, Tables.Queue, Lists.All}
 use Rattle.model.specs.History.{LedgerCall, Lawful, Request, ledger, run}
-use Rattle.model.proofs.{Linearizable.linearized, Openings.after-opening}
-use Rattle.model.proofs.tests.Truth.{and-of}
+use Rattle.model.proofs.{Linearizable.linearized, Openings.after-opening, tests.Truth.and-of}
 use Rattle.model.proofs.ledger.Opened as start
-use Rattle.audit_model.specs.declared.Finished.{Finished}
-use Rattle.audit_model.specs.declared.Verdict.the-variants.{Passed}
-use Rattle.audit_model.specs.Audit.{accepted, allOf, apart, differ, notEarlier, numbered, rearranges, replay, verdict, wellFormed}
+use Rattle.audit_model.specs.declared.{Finished.Finished, Verdict.the-variants.Passed}
+use Rattle.audit_model.specs.Audit.{accepted, allOf, apart, differ, notEarlier, numbered, rearranges, replay}
+use Rattle.audit_model.specs.Audit.{verdict, wellFormed}
 use Rattle.audit_model.specs.Written.{HistoriesPass, IsAnswered, Passes, finished, written}
-use Rattle.audit_model.proofs.OrderedEffects.{OrderedEffect, order-is, orderedEffects}
-use Rattle.audit_model.proofs.Lists.{Pairs, all-append, all-both, all-map, all-mapped, all-of, pairs-mapped, pairs-of, pairs-snoc}
-use Rattle.audit_model.proofs.Order.{NotAfter}
-use Rattle.audit_model.proofs.Replayed.{Replays, replayed, servedIn}
-use Rattle.audit_model.proofs.Events.{Apart, Past, Tidy, run-tidy}
+use Rattle.audit_model.proofs.{OrderedEffects.{OrderedEffect, order-is, orderedEffects}, Order.NotAfter}
+use Rattle.audit_model.proofs.Lists.{Pairs, all-append, all-both, all-map, all-mapped, all-of, pairs-mapped}
+use Rattle.audit_model.proofs.{Lists.{pairs-of, pairs-snoc}, Replayed.{Replays, replayed, servedIn}}
+use Rattle.audit_model.proofs.{Events.{Apart, Past, Tidy, run-tidy}, SlotsDropped.{label-gives, labelsOf}}
 use Rattle.audit_model.proofs.Settled.{Suits, apart-written, formed, settled}
-use Rattle.audit_model.proofs.SlotsDropped.{label-gives, labelsOf}
 use Rattle.audit_model.proofs.Numbered.{IsSettled, Ordered, Within, finished-cons, finished-length, ordered}
 
 -- What a history may hold.

@@ -1,20 +1,13 @@
 -- Settled calls: their effects in order name every call once, and each effect suits the call of its number.
-use mathlib.Core.List.{List, [], _∷_, _++_, map, reverse-cons}
-use mathlib.Core.Logic.{_≢_}
-use mathlib.Core.Path.{_≡_, refl, sym, ap, _∙_, subst}
+use mathlib.Core.{List.{List, [], _∷_, _++_, map, reverse-cons}, Logic._≢_, Path.{_≡_, refl, sym, ap, _∙_, subst}}
 use Prim.Native.Nat.{ℕ, suc, _≤_}
 use native.Mathlib.Omega.{arith}
-use lib.ListN.{length, length-reverse, length-map, List·getD-append}
-use lib.Seq.{getD-at}
-use Rattle.model.specs.History.{LedgerCall, Effect}
-use Rattle.model.specs.Lists.{All}
-use Rattle.audit_model.specs.declared.Finished.{Finished}
-use Rattle.audit_model.specs.Audit.{nobody, numbered}
-use Rattle.audit_model.specs.Written.{finished, written}
+use lib.{ListN.{length, length-reverse, length-map, List·getD-append}, Seq.getD-at}
+use Rattle.model.specs.{History.{LedgerCall, Effect}, Lists.All}
+use Rattle.audit_model.specs.{declared.Finished.Finished, Audit.{nobody, numbered}, Written.{finished, written}}
 use Rattle.audit_model.proofs.OrderedEffects.{OrderedEffect, put, putAll, orderedEffect, orderedEffects}
-use Rattle.audit_model.proofs.Lists.{Pairs, all-both, all-map}
+use Rattle.audit_model.proofs.{Lists.{Pairs, all-both, all-map}, Settled.{Settled, Suits}}
 use Rattle.audit_model.proofs.Order.{NotAfter, insert-all, insert-length, insert-pairs, insert-sorted}
-use Rattle.audit_model.proofs.Settled.{Settled, Suits}
 
 abbrev pub IsSettled : LedgerCall → Type 0
 IsSettled c = Settled c (written c (c .ending))

@@ -1,16 +1,12 @@
 -- Effects put in the order of their places.
-use mathlib.Core.Bool.{Bool, true, false, cond}
-use mathlib.Core.List.{List, [], _∷_, _++_}
-use mathlib.Core.Path.{_≡_, refl, ap}
+use mathlib.Core.{Bool.{Bool, true, false, cond}, List.{List, [], _∷_, _++_}, Path.{_≡_, refl, ap}}
 use Prim.Native.Nat.{suc, _<_, _≤_}
 use native.Mathlib.Omega.{arith}
 use lib.{Dec.ltb, ListN.length}
 use borrow.Author.Tests.{ltb-true, ltb-false, lt-ltb, le-ltb}
-use Rattle.model.proofs.tests.Truth.{by-test}
-use Rattle.model.specs.Lists.{All}
+use Rattle.model.{proofs.tests.Truth.by-test, specs.Lists.All}
 use Rattle.audit_model.specs.Written.{insert}
-use Rattle.audit_model.proofs.OrderedEffects.{OrderedEffect, put}
-use Rattle.audit_model.proofs.Lists.{Pairs}
+use Rattle.audit_model.proofs.{OrderedEffects.{OrderedEffect, put}, Lists.Pairs}
 
 -- Before later ones, and behind all.
 pub insert-before : (t : OrderedEffect) (l m : List OrderedEffect) → All (λ (u : OrderedEffect). t .at < u .at) m → put t (l ++ m) ≡ put t l ++ m

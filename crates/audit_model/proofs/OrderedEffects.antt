@@ -1,11 +1,8 @@
 -- Effects in the order of their places, each with what its call asked for and the reply. The numbers of their calls are the history's order.
-use mathlib.Core.Bool.{Bool, true, false, cond}
-use mathlib.Core.List.{List, [], _∷_, map}
-use mathlib.Core.Path.{_≡_, refl, sym, ap, _∙_}
+use mathlib.Core.{Bool.{Bool, true, false, cond}, List.{List, [], _∷_, map}, Path.{_≡_, refl, sym, ap, _∙_}}
 use Prim.Native.Nat.{ℕ}
 use lib.{Dec.ltb, ListN.length}
-use Rattle.model.specs.declared.{Answer.Answer, Entry.Entry}
-use Rattle.model.specs.History.{LedgerCall, Effect}
+use Rattle.model.specs.{declared.{Answer.Answer, Entry.Entry}, History.{LedgerCall, Effect}}
 use Rattle.audit_model.specs.Written.{Placed, effectOrder, effectsOf, insert, insertAll}
 
 pub record OrderedEffect : Type 0 where

@@ -1,21 +1,17 @@
 -- For every list of events: its effects, in the order of their places, are what the sequential deque served, with its replies.
-use mathlib.Core.Bool.{Bool, false, true, _&&_}
-use mathlib.Core.List.{List, [], _∷_, _++_, append-assoc}
+use mathlib.Core.{Bool.{Bool, false, true, _&&_}, List.{List, [], _∷_, _++_, append-assoc}}
 use mathlib.Core.Path.{_≡_, refl, sym, ap, _∙_, subst}
 use Prim.Native.Nat.{ℕ, suc, _<_, _≤_}
 use native.Mathlib.Omega.{arith}
 use lib.{Dec.eqb, ListN.length}
-use Rattle.model.specs.declared.{Answer.Answer, Entry.Entry, Op.Op, Outcome.Outcome}
-use Rattle.model.specs.declared.Op.the-variants.{Push, Pop, PushPooled, Step}
-use Rattle.model.specs.declared.Outcome.the-variants.{Refused, Moved}
+use Rattle.model.specs.declared.{Answer.Answer, Entry.Entry, Op.{Op, the-variants.{Push, Pop, PushPooled, Step}}}
+use Rattle.model.specs.{declared.Outcome.{Outcome, the-variants.{Refused, Moved}}, Lists.All}
 use Rattle.model.specs.Deque.{Served, saysNoFreeSlot, serve, serveFor, servePop, servePush, takeFirst, seenFrom}
-use Rattle.model.specs.History.{LedgerCall, Effect, Ending, Event, Ledger}
-use Rattle.model.specs.History.{accept, attend, begins, continued, ended, isEffect, isOpen, lacksSlot, ledgerFrom, note, over, stepOf, toldEntry}
+use Rattle.model.specs.History.{LedgerCall, Effect, Ending, Event, Ledger, accept, attend, begins, continued, ended}
+use Rattle.model.specs.History.{isEffect, isOpen, lacksSlot, ledgerFrom, note, over, stepOf, toldEntry}
 use Rattle.model.proofs.tests.Truth.{by-test}
-use Rattle.model.specs.Lists.{All}
 use Rattle.audit_model.proofs.OrderedEffects.{OrderedEffect, put, putAll, orderedEffect, orderedEffects}
-use Rattle.audit_model.proofs.Lists.{all-append, all-map}
-use Rattle.audit_model.proofs.Order.{insert-all, insert-before, insert-last}
+use Rattle.audit_model.proofs.{Lists.{all-append, all-map}, Order.{insert-all, insert-before, insert-last}}
 
 -- An effect served from deque d: the call gets its reply, a push with its label in some slot.
 abbrev pub servedIn : ℕ → OrderedEffect → List Entry → Served

@@ -1,17 +1,12 @@
 -- A call that took effect once, and how it is written down.
-use mathlib.Core.{Bool.true, Logic._≢_}
-use mathlib.Core.List.{[], _∷_}
-use mathlib.Core.Path.{_≡_, refl, sym, subst, _∙_}
+use mathlib.Core.{Bool.true, Logic._≢_, List.{[], _∷_}, Path.{_≡_, refl, sym, subst, _∙_}}
 use Prim.Native.Nat.{ℕ, _<_, _≤_}
 use native.Mathlib.Omega.{arith}
 use borrow.Author.Tests.{le-leb, lt-ltb, ne-eqb}
-use Rattle.model.specs.declared.Answer.{Answer}
-use Rattle.model.specs.declared.Answer.the-variants.{Running, Pushed, Empty, Popped, NoFreeSlot}
-use Rattle.model.specs.declared.Outcome.the-variants.{Moved}
-use Rattle.model.specs.Calls.{replyOf}
+use Rattle.model.specs.declared.Answer.{Answer, the-variants.{Running, Pushed, Empty, Popped, NoFreeSlot}}
+use Rattle.model.specs.{declared.Outcome.the-variants.Moved, Calls.replyOf}
 use Rattle.model.specs.History.{LedgerCall, Effect, Ending, Lawful, answered, pending}
-use Rattle.audit_model.specs.declared.Finished.{Finished}
-use Rattle.audit_model.specs.Audit.{apart, wellFormed}
+use Rattle.audit_model.specs.{declared.Finished.Finished, Audit.{apart, wellFormed}}
 use Rattle.audit_model.specs.Written.{IsAnswered, IsTold, written}
 use Rattle.audit_model.proofs.OrderedEffects.{OrderedEffect, orderedEffect}
 use Rattle.audit_model.proofs.Events.{Apart, NotAt, NotTogether, Past}

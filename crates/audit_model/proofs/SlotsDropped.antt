@@ -1,17 +1,14 @@
 -- A queue of labels replies as the sequential deque does, the slots left out.
-use mathlib.Core.Bool.{Bool, true, false, cond}
-use mathlib.Core.List.{List, [], _∷_, _++_, map, reverse, reverse-cons}
+use mathlib.Core.{Bool.{Bool, true, false, cond}, List.{List, [], _∷_, _++_, map, reverse, reverse-cons}}
 use mathlib.Core.Path.{_≡_, refl, sym, ap, _∙_, subst}
 use Prim.Native.Nat.{ℕ}
 use lib.Dec.{eqb}
 use borrow.Author.Tests.{eq-eqb}
-use Rattle.model.specs.declared.{Answer.Answer, Entry.Entry}
-use Rattle.model.specs.declared.Answer.the-variants.{Running, Pushed, Empty, Popped, NoFreeSlot}
+use Rattle.model.specs.declared.Answer.{Answer, the-variants.{Running, Pushed, Empty, Popped, NoFreeSlot}}
+use Rattle.model.specs.declared.Entry.{Entry}
 use Rattle.model.specs.Deque.{Served, saysNoFreeSlot, seenFrom, serve, serveFor, servePop, servePush, takeFirst}
-use Rattle.audit_model.specs.declared.Finished.{Finished}
-use Rattle.audit_model.specs.Audit.{Given, agrees, gives, serveLabel, takeLabel}
-use Rattle.audit_model.proofs.{OrderedEffects.OrderedEffect, Replayed.servedIn}
-use Rattle.audit_model.proofs.Settled.{Suits, SuitsReply}
+use Rattle.audit_model.specs.{declared.Finished.Finished, Audit.{Given, agrees, gives, serveLabel, takeLabel}}
+use Rattle.audit_model.proofs.{OrderedEffects.OrderedEffect, Replayed.servedIn, Settled.{Suits, SuitsReply}}
 
 abbrev pub labelsOf : List Entry → List ℕ
 labelsOf l = map (λ (e : Entry). e .label) l

@@ -1,19 +1,16 @@
 -- Every verdict means what document 02 says of it, and what means a verdict gets it.
-use mathlib.Core.Bool.{Bool, true, false, _&&_}
-use mathlib.Core.List.{List, [], _∷_, _++_}
-use mathlib.Core.Path.{_≡_, refl, sym, ap, _∙_, subst}
+use mathlib.Core.{Bool.{Bool, true, false, _&&_}, List.{List, [], _∷_, _++_}, Path.{_≡_, refl, sym, ap, _∙_, subst}}
 use Prim.Native.Nat.{ℕ, zero, suc, _+_, _≤_}
 use native.Mathlib.Omega.{arith}
-use lib.Dec.{eqb, leb}
-use lib.ListN.{length}
+use lib.{Dec.{eqb, leb}, ListN.length}
 use borrow.Author.Tests.{eqb-false, eqb-true, leb-true, not-true}
 use Rattle.model.specs.{Sound.from1, Lists.All}
-use Rattle.model.proofs.lists.{Deque.Distinct, Pigeonhole.pigeon}
-use Rattle.model.proofs.tests.Truth.{and-of, and-true, by-test}
-use Rattle.audit_model.specs.declared.{Finished.Finished, Verdict.Verdict}
-use Rattle.audit_model.specs.declared.Verdict.the-variants.{Refused, Failed, Passed}
-use Rattle.audit_model.specs.Audit.{accepted, allOf, differ, gives, inOrder, notEarlier, pairwise, rearranges, replay, verdict}
-use Rattle.audit_model.specs.Laws.{AllRight, Answered, EveryCallListed, FirstWrong, Meaning, MeaningIsTold, VerdictMeans, answers, queueAfter, right}
+use Rattle.model.proofs.{lists.{Deque.Distinct, Pigeonhole.pigeon}, tests.Truth.{and-of, and-true, by-test}}
+use Rattle.audit_model.specs.{declared.Finished.Finished, Audit.{replay, verdict}}
+use Rattle.audit_model.specs.declared.Verdict.{Verdict, the-variants.{Refused, Failed, Passed}}
+use Rattle.audit_model.specs.Audit.{accepted, allOf, differ, gives, inOrder, notEarlier, pairwise, rearranges}
+use Rattle.audit_model.specs.Laws.{AllRight, Answered, EveryCallListed, FirstWrong, Meaning, MeaningIsTold, right}
+use Rattle.audit_model.specs.Laws.{VerdictMeans, answers, queueAfter}
 
 -- The calls are all right, or one is the first that is not; b positions were passed.
 pub data Told (b : ℕ) (cs : List Finished) (q : List ℕ) : Verdict → Type 0 where

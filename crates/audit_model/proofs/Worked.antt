@@ -1,21 +1,19 @@
 -- A worked history: a label pushed, then two pops of it at once; the later pop gets it. And one of a pooled queue with a single slot.
-use mathlib.Core.Path.{_≡_, refl}
-use mathlib.Core.List.{List, [], _∷_, _++_, map}
+use mathlib.Core.{Path.{_≡_, refl}, List.{List, [], _∷_, _++_, map}}
 use Prim.Native.Nat.{ℕ, zero, suc, _+_, _*_}
 use lib.ListN.{replicate}
-use Rattle.model.specs.declared.Op.the-variants.{Push, Pop, PushPooled, Step}
-use Rattle.model.specs.Tables.{Queue, unused, tablesOf, unopened}
+use Rattle.model.specs.{declared.Op.the-variants.{Push, Pop, PushPooled, Step}, Places.{at12, at13, at14, move}}
+use Rattle.model.specs.{Tables.{Queue, unused, tablesOf, unopened}, Calls.{actOn, act}}
 use Rattle.model.specs.Sound.{anchorSound, linkSound, controlSound, recordSound, rowsFit}
-use Rattle.model.specs.Places.{sideOf, row, linkSide, reading, at1, at2, at3, new4, at4, at5, at6, at7, at9, at10, at11, at12, at13, at14, move}
+use Rattle.model.specs.Places.{sideOf, row, linkSide, reading, at1, at2, at3, new4, at4, at5, at6, at7, at9, at10, at11}
 use Rattle.model.specs.Route.{pushRoute, popRoute, route, onward, answer, goes, counted}
 use Rattle.model.specs.Refusals.{openRefusal, stepSound, stepRefusal, startRefusal}
-use Rattle.model.specs.Calls.{opened, openAs, openPooled, openQueue, pushStart, pushPooledStart, popStart, finish, step, actOn, act}
+use Rattle.model.specs.Calls.{opened, openAs, openPooled, openQueue, pushStart, pushPooledStart, popStart, finish, step}
 use Rattle.model.specs.Deque.{serve, serveFor, servePop, servePush}
 use Rattle.model.specs.History.{LedgerCall, Request, accept, attend, isEffect, ledger, ledgerFrom, note, run, stepOf}
-use Rattle.audit_model.specs.declared.{Finished.Finished, VerdictReply.VerdictReply}
-use Rattle.audit_model.specs.declared.Verdict.the-variants.{Failed, Passed, Refused}
-use Rattle.audit_model.specs.Audit.{accepted, agrees, apart, notEarlier, rearranges, replay, serveLabel, verdict, wellFormed}
-use Rattle.audit_model.specs.LentHistory.{verdictReply}
+use Rattle.audit_model.specs.{declared.{Finished.Finished, VerdictReply.VerdictReply}, Audit.wellFormed}
+use Rattle.audit_model.specs.{declared.Verdict.the-variants.{Failed, Passed, Refused}, LentHistory.verdictReply}
+use Rattle.audit_model.specs.Audit.{accepted, agrees, apart, notEarlier, rearranges, replay, serveLabel, verdict}
 use Rattle.audit_model.specs.Written.{effectOrder, finished, insert}
 
 abbrev zeros : Queue

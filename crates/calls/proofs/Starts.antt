@@ -1,25 +1,14 @@
 -- With tables of the lengths told, a start by these lengths is the document's.
-use mathlib.Core.Path.{_≡_, refl, ap, _∙_}
-use mathlib.Core.Bool.{Bool, true, false, cond}
-use mathlib.Core.List.{List, []}
+use mathlib.Core.{Path.{_≡_, refl, ap, _∙_}, Bool.{Bool, true, false, cond}, List.{List, []}}
 use Prim.Native.Nat.{ℕ}
 use lib.Dec.{eqb}
-use Rattle.model.specs.declared.Control.{Control}
-use Rattle.model.specs.declared.Call.{Call}
-use Rattle.model.specs.declared.Record.{Record}
-use Rattle.model.specs.declared.Asked.{Asked}
-use Rattle.model.specs.declared.Answer.the-variants.{Running}
-use Rattle.model.specs.declared.Outcome.the-variants.{Refused, Moved}
-use Rattle.model.specs.Calls as calls
-use Rattle.model.specs.Calls.{decide, pushStart, pushPooledStart, popStart}
-use Rattle.model.specs.Route.{counted}
+use Rattle.model.specs.declared.{Control.Control, Call.Call, Record.Record, Asked.Asked, Answer.the-variants.Running}
+use Rattle.model.specs.{declared.{Outcome.the-variants.{Refused, Moved}, Transition.Transition}, Route.counted}
+use Rattle.model.specs.{Calls.{decide, pushStart, pushPooledStart, popStart}, Sound.rowsFit}
 use Rattle.model.specs.Tables.{Tables, isPooled, tablesOf, withCall, withTaken, started, asking}
-use Rattle.model.specs.Sound.{rowsFit}
 use Rattle.model.specs.Refusals.{Lent, startRefusal, namedPush, pooledPush, nothingAsked}
-use Rattle.model.specs.declared.Transition.{Transition}
-use Rattle.sound.specs.declared.Lengths.{Lengths}
-use Rattle.sound.specs.Lengths.{Measures, amongMany}
-use Rattle.sound.proofs.Measured.{measured}
+use Rattle.model.specs.Calls as calls
+use Rattle.sound.{specs.{declared.Lengths.Lengths, Lengths.{Measures, amongMany}}, proofs.Measured.measured}
 use Rattle.table.specs.Lent.{withTables}
 use Rattle.calls.specs.Starting.{decided, refusedBy, touching, pushRefusedBy, storedUnless}
 

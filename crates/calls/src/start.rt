@@ -9,10 +9,8 @@ use model::Outcome;
 use model::Transition;
 use sound::Lengths;
 use sound::admission;
-ghost use mathlib.Core.Path.{_≡_};
-ghost use mathlib.Core.List.{[]};
-ghost use Rattle.model.specs.Tables.{newCall, started, asking};
-ghost use Rattle.model.specs.Refusals.{nothingAsked, pooledPush};
+ghost use mathlib.Core.{Path._≡_, List.[]};
+ghost use Rattle.model.specs.{Tables.{newCall, started, asking}, Refusals.{nothingAsked, pooledPush}};
 ghost use Rattle.calls.specs.Starting.{decided, refusedBy, touching, pushRefusedBy, storedUnless};
 
 /// The whole record of a call at its first place.

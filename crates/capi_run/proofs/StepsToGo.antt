@@ -1,23 +1,15 @@
 -- A run of steps, one step after another: with k steps made of n, what is left leads where the whole run leads.
-use mathlib.Core.Path.{_≡_, refl, sym, ap, _∙_}
-use mathlib.Core.Bool.{true, false, cond}
-use mathlib.Core.List.{List}
+use mathlib.Core.{Path.{_≡_, refl, sym, ap, _∙_}, Bool.{true, false, cond}, List.List}
 use Prim.Native.Nat.{ℕ, zero, suc, _+_, _-_, _<_, _≤_}
 use native.Mathlib.Omega.{arith}
 use lib.{Dec.eqb, ListN.set}
 use borrow.Author.Tests.{eq-eqb, ne-eqb}
-use Rattle.model.specs.declared.Answer.the-variants.{Running, Pushed, Empty, Popped, NoFreeSlot}
-use Rattle.model.specs.declared.Outcome.{Outcome}
-use Rattle.model.specs.declared.Outcome.the-variants.{Refused, Moved}
-use Rattle.model.specs.declared.Op.the-variants.{Step}
-use Rattle.model.specs.Tables.{Queue, recordAt}
-use Rattle.model.specs.Calls.{Done, act}
-use Rattle.model.specs.Ends.{isMoved, isRunning, endsCall}
+use Rattle.model.specs.declared.{Answer.the-variants.{Running, Pushed, Empty, Popped, NoFreeSlot}, Op.the-variants.Step}
+use Rattle.model.specs.{declared.Outcome.{Outcome, the-variants.{Refused, Moved}}, Tables.{Queue, recordAt}}
+use Rattle.model.specs.{Calls.{Done, act}, Ends.{isMoved, isRunning, endsCall}}
 use Rattle.model.specs.Solo.{SoloDone, lastStep, oneMore, resting, soloRun, soloSteps}
-use Rattle.model.proofs.tests.Truth.{not-both}
-use Rattle.model.proofs.laws.Refusals.{act-refused}
-use Rattle.capi_run.specs.declared.RunReply.{RunReply}
-use Rattle.capi_run.specs.Replies.{runReplyOf, Ran, ran}
+use Rattle.model.proofs.{tests.Truth.not-both, laws.Refusals.act-refused}
+use Rattle.capi_run.specs.{declared.RunReply.RunReply, Replies.{runReplyOf, Ran, ran}}
 
 -- After k steps.
 abbrev further : ℕ → SoloDone → SoloDone

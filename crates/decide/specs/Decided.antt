@@ -3,16 +3,12 @@
 use mathlib.Core.Bool.{Bool, _&&_, not, cond}
 use Prim.Native.Nat.{ℕ, _+_}
 use lib.Dec.{eqb, leb}
-use Rattle.word.specs.declared.Anchor.{Anchor}
-use Rattle.word.specs.Anchor.{anchorOf, packAnchor}
-use Rattle.word.specs.Link.{linkOf, packLink}
-use Rattle.model.specs.declared.{Control.Control, Call.Call, Transition.Transition}
-use Rattle.model.specs.{Sound.from1, Kinds.isPush, Ends.isMoved}
-use Rattle.model.specs.Sides.{near, far, facing, pushing}
+use Rattle.word.specs.{declared.Anchor.Anchor, Anchor.{anchorOf, packAnchor}, Link.{linkOf, packLink}}
+use Rattle.model.specs.{declared.{Control.Control, Call.Call, Transition.Transition}, Sound.from1, Kinds.isPush}
+use Rattle.model.specs.{Ends.isMoved, Sides.{near, far, facing, pushing}, Tables.{isPooled, withNeighbour, withOwn}}
 use Rattle.model.specs.Route.{route, onlyWay, done, hasFailed, equal, unequal, namedQueue, pooledQueue}
-use Rattle.model.specs.Tables.{isPooled, withNeighbour, withOwn}
-use Rattle.decide.specs.declared.touched.LinkWord.{LinkWord}
-use Rattle.decide.specs.Ending.{refused, settled, noEntry, failing, tagHasRoom, headed, rowSound, neighbourRead, linkRead}
+use Rattle.decide.specs.{declared.touched.LinkWord.LinkWord, Ending.linkRead}
+use Rattle.decide.specs.Ending.{refused, settled, noEntry, failing, tagHasRoom, headed, rowSound, neighbourRead}
 
 -- The end as read: at the task's side, and at 5 to 10 at the side that the status names. The slot of the head as read.
 abbrev pub ownEnd : Call → ℕ

@@ -4,10 +4,8 @@ use Prim.Native.Nat.{ℕ, _/_, _^_}
 use lib.Dec.{eqb, ltb}
 use Rattle.word.specs.{Anchor.anchorOf, Link.linkOf}
 use Rattle.model.specs.declared.{Control.Control, Call.Call, Entry.Entry, Transition.Transition}
-use Rattle.model.specs.declared.Outcome.the-variants.{Refused, Moved}
-use Rattle.model.specs.Sound.{from1, anchorSound, linkSound}
-use Rattle.model.specs.Route.{onward, goes, answer}
-use Rattle.model.specs.Tables.{withSeen, withNeighbour, withLink, withWords}
+use Rattle.model.specs.{declared.Outcome.the-variants.{Refused, Moved}, Sound.{from1, anchorSound, linkSound}}
+use Rattle.model.specs.{Route.{onward, goes, answer}, Tables.{withSeen, withNeighbour, withLink, withWords}}
 
 abbrev pub refused : Control → Call → Transition
 refused c r = record { control = c; task = r; outcome = Refused 34; failed = false }

@@ -16,8 +16,8 @@ use route::next;
 use word::Anchor;
 use word::Link;
 ghost use mathlib.Core.Path.{_≡_};
-ghost use Rattle.decide.specs.Decided.{madeOf, found3, found5, found7, found9, found11, found13, found14, found16};
-ghost use Rattle.decide.specs.Decided.{new2, new3, new4, new9, new10, new14, new17};
+ghost use Rattle.decide.specs.Decided.{madeOf, found3, found5, found7, found9, found11, found13, found14, new2};
+ghost use Rattle.decide.specs.Decided.{found16, new3, new4, new9, new10, new14, new17};
 
 /// Place 2: own, own, s; of a pop null, null, s.
 pub fn new2(r: Call) -> u64

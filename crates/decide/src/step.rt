@@ -9,14 +9,12 @@ use model::Transition;
 use route::next;
 use word::Anchor;
 use word::Link;
-ghost use mathlib.Core.Path.{_≡_};
-ghost use mathlib.Core.Bool.{false, cond};
+ghost use mathlib.Core.{Path._≡_, Bool.{false, cond}};
 ghost use Prim.Native.Nat.{_+_, _/_, _^_};
 ghost use Rattle.word.specs.Link.{packLink};
-ghost use Rattle.model.specs.Tables.{idle, withSeen};
-ghost use Rattle.model.specs.Route.{goes};
-ghost use Rattle.decide.specs.Ending.{refused, settled, failing, tagHasRoom, mayChange, changeRefused, anchored, headed, remembered};
-ghost use Rattle.decide.specs.Ending.{compared, rowSound, neighbourRead, linkRead, headRead};
+ghost use Rattle.model.specs.{Tables.{idle, withSeen}, Route.goes};
+ghost use Rattle.decide.specs.Ending.{refused, settled, failing, tagHasRoom, mayChange, changeRefused, anchored};
+ghost use Rattle.decide.specs.Ending.{headed, remembered, compared, rowSound, neighbourRead, linkRead, headRead};
 
 /// For a step that pops nothing.
 pub const NO_ENTRY: Entry = Entry { slot: 0, label: 0 };

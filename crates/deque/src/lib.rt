@@ -8,10 +8,8 @@ use rows::value::Stepped;
 use sound::Lengths;
 use sound::admission;
 ghost use mathlib.Core.Path.{_≡_};
-ghost use Rattle.model.specs.declared.Op.the-variants.{Step};
-ghost use Rattle.model.specs.Tables.{tablesOf, queueOf};
+ghost use Rattle.model.specs.{declared.Op.the-variants.Step, Tables.{tablesOf, queueOf}, Calls.{Done, act, stepLent}};
 ghost use Rattle.model.specs.Calls as calls;
-ghost use Rattle.model.specs.Calls.{Done, act, stepLent};
 
 /// The step of a record lent alone.
 fn step_alone(

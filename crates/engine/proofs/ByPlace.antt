@@ -1,11 +1,9 @@
 -- What a place's move keeps: kind and side, at places 1 to 10 the own slot and the label, and the head.
-use mathlib.Core.Path.{_≡_, refl}
-use mathlib.Core.Bool.{Bool, true, false}
+use mathlib.Core.{Path.{_≡_, refl}, Bool.{Bool, true, false}}
 use Prim.Native.Nat.{ℕ, _≤_}
 use native.Mathlib.Omega.{arith}
-use Rattle.model.specs.declared.{Control.Control, Call.Call}
-use Rattle.model.specs.Tables.{withOwn}
-use Rattle.model.specs.Places.{Touch, nothing, setAnchor, setLink, clearMark, takeSlot, setNext, setHead, Move, row, move}
+use Rattle.model.specs.{declared.{Control.Control, Call.Call}, Tables.withOwn, Places.move}
+use Rattle.model.specs.Places.{Touch, nothing, setAnchor, setLink, clearMark, takeSlot, setNext, setHead, Move, row}
 use Rattle.model.proofs.bridge.ByMove.{by-move}
 
 -- What a step leaves of a record; with `inDeque`, at 1 to 10, slot and label too.

@@ -1,17 +1,12 @@
 -- The model's step in its two parts, and the second by its place.
-use mathlib.Core.Path.{_≡_, refl, ap, sym, _∙_}
-use mathlib.Core.Bool.{true, _&&_, cond, and-eq-true-iff}
+use mathlib.Core.{Path.{_≡_, refl, ap, sym, _∙_}, Bool.{true, _&&_, cond, and-eq-true-iff}}
 use Prim.Native.Nat.{ℕ, suc, _≤_}
 use native.Mathlib.Omega.{arith}
 use lib.Dec.{eqb}
 use borrow.Author.Tests.{leb-true, eqb-false, ne-eqb}
-use Rattle.model.specs.declared.Record.{Record}
-use Rattle.model.specs.declared.Outcome.the-variants.{Refused}
-use Rattle.model.specs.Tables.{Tables, isPooled}
-use Rattle.model.specs.Sound.{controlSound, recordSound, rowsFit}
-use Rattle.model.specs.Places.{wordFound, move}
-use Rattle.model.specs.Refusals.{Lent, stepSound, stepRefusal, admission, recordRefusal}
-use Rattle.model.specs.Calls.{decide, finish, step}
+use Rattle.model.specs.{declared.{Record.Record, Outcome.the-variants.Refused}, Tables.{Tables, isPooled}}
+use Rattle.model.specs.{Sound.{controlSound, recordSound, rowsFit}, Places.{wordFound, move}}
+use Rattle.model.specs.{Refusals.{Lent, stepSound, stepRefusal, admission, recordRefusal}, Calls.{decide, finish, step}}
 use Rattle.model.proofs.tests.Truth.{split}
 use Rattle.places.specs.Arm.{stepAt}
 use Rattle.engine.specs.StepAdmitted.{stepAdmitted}

@@ -1,18 +1,13 @@
 -- What is stored after a step is what the step leaves, since it changes nothing else (`Unchanged`).
-use mathlib.Core.Path.{_≡_, refl, sym, ap, ap₂, subst, _∙_}
-use mathlib.Core.Bool.{true, false}
-use mathlib.Core.List.{List}
+use mathlib.Core.{Path.{_≡_, refl, sym, ap, ap₂, subst, _∙_}, Bool.{true, false}, List.List}
 use Prim.Native.Nat.{ℕ, _≤_}
 use Rattle.model.specs.declared.{Control.Control, Call.Call, Record.Record, Outcome.Outcome, Transition.Transition}
+use Rattle.model.specs.{Tables.{Tables, tablesOf, counting, idle, ofKind, withCall, withOwn, withWords}, Route.counted}
+use Rattle.model.{specs.{Calls.Acted, Ends.{endsCall, isMoved}}, proofs.tests.Truth.{split, not-both}}
 use Rattle.model.specs.declared.Outcome.the-variants as outcome
-use Rattle.model.specs.Tables.{Tables, tablesOf, counting, idle, ofKind, withCall, withOwn, withWords}
-use Rattle.model.specs.{Route.counted, Calls.Acted}
-use Rattle.model.proofs.tests.Truth.{split, not-both}
-use Rattle.model.specs.Ends.{endsCall, isMoved}
-use Rattle.engine.specs.StepAdmitted.{stepAdmitted}
-use Rattle.engine.specs.Stored.{anchorMoved, callMoved, headMoved, ownMoved, anchorAfter, callAfter, headAfter, ownAfter}
-use Rattle.engine.proofs.ByPlace.{Keeps}
-use Rattle.engine.proofs.Unchanged.{Unchanged, admitted-unchanged}
+use Rattle.engine.specs.{StepAdmitted.stepAdmitted, Stored.ownAfter}
+use Rattle.engine.specs.Stored.{anchorMoved, callMoved, headMoved, ownMoved, anchorAfter, callAfter, headAfter}
+use Rattle.engine.proofs.{ByPlace.Keeps, Unchanged.{Unchanged, admitted-unchanged}}
 
 -- A refused step ends no call.
 pub refused-goes : (o : Outcome) → isMoved o ≡ false → endsCall o ≡ false

@@ -1,26 +1,18 @@
 -- What a step never changes: control's tasks, slots and way of opening, at places 1 to 10 its head; and, unless it ends the call, the record's
 -- kind and side, at 1 to 10 its own slot and label. A step that ends the call leaves the record all zero, a refused one all as it was.
-use mathlib.Core.Path.{_≡_, refl, sym, ap, subst, _∙_}
-use mathlib.Core.Bool.{Bool, true, false, _||_, cond}
-use mathlib.Core.List.{List, [], _∷_}
+use mathlib.Core.{Path.{_≡_, refl, sym, ap, subst, _∙_}, Bool.{Bool, true, false, _||_, cond}, List.{List, [], _∷_}}
 use Prim.Native.Nat.{ℕ, zero, suc, _≤_}
 use native.Mathlib.Omega.{arith}
-use lib.Dec.{eqb, leb}
-use lib.ListN.{getD}
+use lib.{Dec.{eqb, leb}, ListN.getD}
 use borrow.Author.Tests.{leb-true, eqb-true, eqb-false, ne-eqb}
-use Rattle.model.specs.declared.{Call.Call, Record.Record, Entry.Entry}
-use Rattle.model.specs.declared.Outcome.the-variants.{Refused, Moved}
-use Rattle.model.specs.Tables.{Tables, idle}
-use Rattle.model.specs.Places.{Touch, nothing, setAnchor, setLink, clearMark, takeSlot, setNext, setHead, Move, wordFound, apply}
-use Rattle.model.specs.Route.{pushRoute, popRoute, route, onward, answer, goes}
-use Rattle.model.specs.Refusals.{stepSound}
-use Rattle.model.specs.Calls.{Acted, finish}
+use Rattle.model.specs.declared.{Call.Call, Record.Record, Entry.Entry, Outcome.the-variants.{Refused, Moved}}
+use Rattle.model.specs.{Tables.{Tables, idle}, Places.wordFound, Refusals.stepSound, Calls.{Acted, finish}}
+use Rattle.model.specs.Places.{Touch, nothing, setAnchor, setLink, clearMark, takeSlot, setNext, setHead, Move, apply}
+use Rattle.model.specs.{Route.{pushRoute, popRoute, route, onward, answer, goes}, Ends.{endsCall, isMoved}}
+use Rattle.model.proofs.tests.Truth.{split}
 use Rattle.places.specs.Arm.{stepAt}
 use Rattle.engine.specs.StepAdmitted.{stepAdmitted}
-use Rattle.model.specs.Ends.{endsCall, isMoved}
-use Rattle.engine.proofs.ByPlace.{Keeps, Moves, heads, itself, moves}
-use Rattle.model.proofs.tests.Truth.{split}
-use Rattle.engine.proofs.InParts.{here, fault, placed}
+use Rattle.engine.proofs.{ByPlace.{Keeps, Moves, heads, itself, moves}, InParts.{here, fault, placed}}
 
 clash : false ≡ true → ⊥
 clash h = let z : _≡_ {A = ℕ} 0 1 = cc in omega arith

@@ -1,10 +1,8 @@
 -- The second part of a step: what an admitted record does.
 use mathlib.Core.Bool.{cond}
 use lib.Dec.{eqb}
-use Rattle.model.specs.declared.Record.{Record}
-use Rattle.model.specs.declared.Outcome.the-variants.{Refused}
-use Rattle.model.specs.Tables.{Tables, isPooled}
-use Rattle.model.specs.{Refusals.recordRefusal, Calls.Acted}
+use Rattle.model.specs.{declared.{Record.Record, Outcome.the-variants.Refused}, Tables.{Tables, isPooled}, Calls.Acted}
+use Rattle.model.specs.Refusals.{recordRefusal}
 use Rattle.places.specs.Arm.{stepAt}
 
 -- 34 and 31 for the record come first, then its place.

@@ -1,20 +1,12 @@
 -- The answer: refused before the walk, by the walk, or found.
-use mathlib.Core.Path.{_≡_, refl, sym, ap, _∙_}
-use mathlib.Core.Bool.{Bool, true, false, not}
-use mathlib.Core.List.{List, [], _∷_}
+use mathlib.Core.{Path.{_≡_, refl, sym, ap, _∙_}, Bool.{Bool, true, false, not}, List.{List, [], _∷_}}
 use Prim.Native.Nat.{ℕ, _≤_}
 use native.Mathlib.Omega.{arith}
-use lib.Dec.{ltb}
-use lib.ListN.{length}
+use lib.{Dec.ltb, ListN.length}
 use borrow.Author.Tests.{ltb-false, ne-eqb}
-use Rattle.model.specs.Tables.{Tables}
-use Rattle.model.specs.Sound.{controlSound, from1, rowsFit}
-use Rattle.model.specs.Walk.{Walk, contents, isBroken, entries, broken}
-use Rattle.model.specs.Refusals.{rule, first}
-use Rattle.model.proofs.tests.Truth.{split}
-use Rattle.walk.specs.declared.Way.{Way}
-use Rattle.walk.specs.Ways.{wayOf, noneOn, ahead, turnedBack}
-use Rattle.walk.proofs.Along.{nowhere, waits, off}
+use Rattle.model.specs.{Tables.Tables, Sound.{controlSound, from1, rowsFit}, Refusals.{rule, first}}
+use Rattle.model.{specs.Walk.{Walk, contents, isBroken, entries, broken}, proofs.tests.Truth.split}
+use Rattle.walk.{specs.{declared.Way.Way, Ways.{wayOf, noneOn, ahead, turnedBack}}, proofs.Along.{nowhere, waits, off}}
 use Rattle.find_model.specs.Find.{find, findRefusal, refused}
 use Rattle.find.specs.Looked.{foundIn, refusalBefore}
 

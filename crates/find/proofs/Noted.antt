@@ -1,17 +1,12 @@
 -- What is noted for one label, for one label more, and for a label that was not asked for.
-use mathlib.Core.Path.{_≡_, refl, sym, ap, _∙_}
-use mathlib.Core.Bool.{Bool, true, false, _&&_, _||_, not, cond}
-use mathlib.Core.List.{List, [], _∷_, map}
+use mathlib.Core.{Path.{_≡_, refl, sym, ap, _∙_}, Bool.{Bool, true, false, _&&_, _||_, not, cond}, List.{List, [], _∷_}}
 use mathlib.Core.Logic.{_≢_}
 use Prim.Native.Nat.{ℕ, zero, suc, _+_, _<_, _≤_}
 use native.Mathlib.Omega.{arith}
-use lib.Dec.{eqb}
-use lib.ListN.{length, getD, set, take}
+use lib.{Dec.eqb, ListN.{length, getD, set, take}}
 use borrow.Author.Tests.{eq-eqb, ne-eqb}
-use Rattle.model.specs.declared.Entry.{Entry}
-use Rattle.model.proofs.tests.Truth.{not-both}
-use Rattle.find_model.specs.Noting.{note, pick}
-use Rattle.find_model.proofs.Positions.{notes}
+use Rattle.model.{specs.declared.Entry.Entry, proofs.tests.Truth.not-both}
+use Rattle.find_model.{specs.Noting.{note, pick}, proofs.Positions.notes}
 
 pub set-own : (l : List ℕ) (i : ℕ) → set l i (getD l i 0) ≡ l
 set-own [] i = refl

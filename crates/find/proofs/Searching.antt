@@ -1,25 +1,18 @@
 -- The walk from either end finds the positions.
-use mathlib.Core.Path.{_≡_, refl, sym, ap, subst, _∙_}
-use mathlib.Core.Bool.{Bool, true, false, cond}
-use mathlib.Core.List.{List, [], _∷_, _++_, append-nil, reverse, map}
+use mathlib.Core.{Path.{_≡_, refl, sym, ap, subst, _∙_}, Bool.{Bool, true, false}}
+use mathlib.Core.List.{List, [], _∷_, _++_, append-nil, map}
 use Prim.Native.Nat.{ℕ, zero, suc, _+_, _<_, _≤_}
 use native.Mathlib.Omega.{arith}
 use lib.ListN.{length, getD, length-reverse, replicate, drop-of-length-le}
 use borrow.Author.Tests.{le-leb}
-use Rattle.model.specs.declared.Entry.{Entry}
-use Rattle.model.specs.Walk.{Walk, broken, entries}
+use Rattle.model.specs.{declared.Entry.Entry, Walk.{Walk, broken, entries}}
 use Rattle.table.specs.Zeroing.{zeroing}
-use Rattle.walk.specs.declared.Way.{Way}
-use Rattle.walk.specs.declared.Tally.the-variants.{Labels}
-use Rattle.walk.specs.Ways.{turnedBack}
+use Rattle.walk.specs.{declared.{Way.Way, Tally.the-variants.Labels}, Ways.turnedBack}
 use Rattle.walk.specs.Over.{Made, made, lost, each, over}
-use Rattle.find_model.specs.declared.FindReply.{FindReply}
-use Rattle.find_model.specs.Find.{found, refused}
-use Rattle.find_model.specs.Noting.{note, turned}
+use Rattle.find_model.specs.{declared.FindReply.FindReply, Find.{found, refused}, Noting.{note, turned}}
 use Rattle.find_model.proofs.Positions.{notes, from-left, from-right}
 use Rattle.find.specs.Looked.{Noted, noteOn, noted, turning, foundIn}
-use Rattle.find.proofs.Noted.{notes-beyond, notes-most}
-use Rattle.find.proofs.Turning.{turn-all}
+use Rattle.find.proofs.{Noted.{notes-beyond, notes-most}, Turning.turn-all}
 
 abbrev pub blank : List ℕ
 blank = replicate 32 0

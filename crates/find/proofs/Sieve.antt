@@ -1,15 +1,10 @@
 -- The sieve one label further; and a label that does not pass it is none of those asked for.
-use mathlib.Core.Path.{_≡_, sym, ap, subst, _∙_}
-use mathlib.Core.Bool.{true, false}
-use mathlib.Core.List.{List}
-use mathlib.Core.Logic.{_≢_}
+use mathlib.Core.{Path.{_≡_, sym, ap, subst, _∙_}, Bool.{true, false}, List.List, Logic._≢_}
 use Prim.Native.Nat.{ℕ, _+_, _/_, _%_, _<_}
-use native.Mathlib.Decide.{ℕ-discrete}
-use native.Mathlib.Omega.{arith}
+use native.Mathlib.{Decide.ℕ-discrete, Omega.arith}
 use lib.ListN.{length, getD, length-set}
 use Rattle.model.specs.Tables.{marked, withMark}
-use Rattle.model.proofs.tests.Truth.{not-both}
-use Rattle.model.proofs.bridge.Marks.{marked-same, marked-other}
+use Rattle.model.proofs.{tests.Truth.not-both, bridge.Marks.{marked-same, marked-other}}
 use Rattle.find.specs.Sieve.{Sifted}
 
 -- A mark that is set stays set when another is.

@@ -1,20 +1,10 @@
 -- What a walk notes and finds.
-use mathlib.Core.Path.{_≡_}
-use mathlib.Core.Bool.{Bool, true, not}
-use mathlib.Core.List.{List, [], _∷_}
+use mathlib.Core.{Path._≡_, Bool.{Bool, true, not}, List.{List, [], _∷_}}
 use Prim.Native.Nat.{ℕ, zero, suc, _+_, _≤_}
 use lib.ListN.{length}
-use Rattle.model.specs.declared.Entry.{Entry}
-use Rattle.model.specs.Sound.{from1}
-use Rattle.model.specs.Walk.{Walk, entries, broken}
-use Rattle.model.specs.Refusals.{rule, first}
-use Rattle.walk.specs.declared.Tally.{Tally}
-use Rattle.walk.specs.declared.Tally.the-variants.{Broken, Labels}
-use Rattle.walk.specs.declared.Way.{Way}
-use Rattle.walk.specs.Over.{Made, made, lost}
-use Rattle.find_model.specs.declared.FindReply.{FindReply}
-use Rattle.find_model.specs.Find.{found, refused}
-use Rattle.find_model.specs.Noting.{note}
+use Rattle.model.specs.{declared.Entry.Entry, Sound.from1, Walk.{Walk, entries, broken}, Refusals.{rule, first}}
+use Rattle.walk.specs.{declared.{Tally.{Tally, the-variants.{Broken, Labels}}, Way.Way}, Over.{Made, made, lost}}
+use Rattle.find_model.specs.{declared.FindReply.FindReply, Find.{found, refused}, Noting.note}
 
 -- The slots met, and the positions noted.
 pub record Noted : Type 0 where

@@ -1,7 +1,5 @@
 -- A sieve of 1,024 marks: every label asked for has its mark set.
-use mathlib.Core.Path.{_≡_}
-use mathlib.Core.Bool.{true}
-use mathlib.Core.List.{List}
+use mathlib.Core.{Path._≡_, Bool.true, List.List}
 use Prim.Native.Nat.{ℕ, _%_, _<_}
 use lib.ListN.{length, getD}
 use Rattle.model.specs.Tables.{marked}

@@ -1,17 +1,13 @@
 -- The leftmost of equals: the first that a walk from the left meets, the last that one from the right meets.
-use mathlib.Core.Path.{_≡_, refl, sym, ap, ap₂, subst, _∙_}
-use mathlib.Core.Bool.{Bool, true, false, _&&_, cond}
+use mathlib.Core.{Path.{_≡_, refl, sym, ap, ap₂, subst, _∙_}, Bool.{Bool, true, false, _&&_, cond}}
 use mathlib.Core.List.{List, [], _∷_, _++_, map, map-append, map-map, reverse, reverse-cons}
 use mathlib.Core.Logic.{_≢_, _⊎_, inl, inr}
 use Prim.Native.Nat.{ℕ, zero, suc, _+_, _-_, _<_, _≤_}
 use native.Mathlib.{Nat.add-zero, Omega.arith}
-use lib.Dec.{eqb}
-use lib.ListN.{length, length-reverse, replicate}
+use lib.{Dec.eqb, ListN.{length, length-reverse, replicate}}
 use borrow.Author.Tests.{le-leb, ne-eqb}
-use Rattle.model.specs.declared.Entry.{Entry}
-use Rattle.model.proofs.tests.Truth.{split}
-use Rattle.find_model.specs.Find.{found, position, positionFrom}
-use Rattle.find_model.specs.Noting.{note, pick, turned}
+use Rattle.model.{specs.declared.Entry.Entry, proofs.tests.Truth.split}
+use Rattle.find_model.specs.{Find.{found, position, positionFrom}, Noting.{note, pick, turned}}
 
 -- What a walk notes for all labels asked for, entry by entry from the k-th on; and for one label.
 abbrev pub notes : Bool → List ℕ → ℕ → List ℕ → List Entry → List ℕ

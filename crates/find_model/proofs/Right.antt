@@ -1,16 +1,11 @@
 -- The position of a label is that of its leftmost copy.
-use mathlib.Core.Bool.{true, false}
-use mathlib.Core.List.{List, [], _∷_, _++_, map}
-use mathlib.Core.Logic.{_⊎_, inl, inr}
-use mathlib.Core.Path.{_≡_, ap, refl, subst, sym}
+use mathlib.Core.{Bool.{true, false}, List.{List, [], _∷_, _++_, map}, Logic.{_⊎_, inl, inr}}
+use mathlib.Core.Path.{_≡_, refl, subst, sym}
 use Prim.Native.Nat.{ℕ, zero, suc, _+_, _<_}
 use native.Mathlib.Omega.{arith}
-use lib.Dec.{eqb}
-use lib.ListN.{getD, length}
+use lib.{Dec.eqb, ListN.{getD, length}}
 use borrow.Author.Tests.{eqb-false, eqb-true}
-use Rattle.model.specs.declared.Entry.{Entry}
-use Rattle.model.specs.Walk.{CopyAt}
-use Rattle.model.proofs.tests.Truth.{split}
+use Rattle.model.{specs.{declared.Entry.Entry, Walk.CopyAt}, proofs.tests.Truth.split}
 use Rattle.find_model.specs.Find.{Found, FoundRight, found, leftmost, notWaiting, position, positionFrom}
 
 abbrev None : ℕ → List Entry → Type 0

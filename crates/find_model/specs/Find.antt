@@ -1,17 +1,9 @@
 -- The positions of some labels among those waiting. (Document 02, #110.)
-use mathlib.Core.Path.{_≡_}
-use mathlib.Core.Bool.{false, not, cond}
-use mathlib.Core.List.{List, [], _∷_, _++_, map}
+use mathlib.Core.{Path._≡_, Bool.{false, not, cond}, List.{List, [], _∷_, _++_, map}}
 use Prim.Native.Nat.{ℕ, suc, _+_, _-_, _<_}
-use lib.Dec.{ltb, eqb}
-use lib.ListN.{getD, length, replicate}
-use Rattle.model.specs.declared.Entry.{Entry}
-use Rattle.model.specs.Tables.{Tables, Queue}
-use Rattle.model.specs.Sound.{controlSound, rowsFit}
-use Rattle.model.specs.Walk.{CopyAt, contents, isBroken, met}
-use Rattle.model.specs.Report.{waiting}
-use Rattle.model.specs.Refusals.{Rule, rule, first}
-use Rattle.model.specs.Standing.{Standing}
+use lib.{Dec.{ltb, eqb}, ListN.{getD, length, replicate}}
+use Rattle.model.specs.{declared.Entry.Entry, Tables.{Tables, Queue}, Sound.{controlSound, rowsFit}, Report.waiting}
+use Rattle.model.specs.{Walk.{CopyAt, contents, isBroken, met}, Refusals.{Rule, rule, first}, Standing.Standing}
 use Rattle.model.specs.History.{AfterOpening, final, ledger, run}
 use Rattle.find_model.specs.declared.FindReply.{FindReply}
 

@@ -1,6 +1,5 @@
 -- The positions as a walk finds them, slot by slot, k counting the slots met.
-use mathlib.Core.Bool.{Bool, _&&_, _||_, not, cond}
-use mathlib.Core.List.{List, [], _∷_}
+use mathlib.Core.{Bool.{Bool, _&&_, _||_, not, cond}, List.{List, [], _∷_}}
 use Prim.Native.Nat.{ℕ, _+_, _-_}
 use lib.Dec.{eqb}
 use Rattle.model.specs.Sound.{from1}

@@ -1,20 +1,13 @@
 -- Rows filled over scratch, and the labels that scratch leads to.
-use mathlib.Core.Path.{_≡_, refl, sym, ap, subst, _∙_}
-use mathlib.Core.Bool.{Bool, true, false, cond}
+use mathlib.Core.{Path.{_≡_, refl, sym, ap, subst, _∙_}, Bool.{Bool, true, false, cond}}
 use mathlib.Core.List.{List, [], _∷_, map, reverseAux}
 use Prim.Native.Nat.{ℕ, zero, suc, _+_, _<_, _≤_}
-use native.Mathlib.Decide.{decLe}
-use native.Mathlib.Omega.{arith}
-use lib.Dec.{eqb}
-use lib.ListN.{length, getD, set, drop}
-use lib.Seq.{ext-getD, getD-set-other}
+use native.Mathlib.{Decide.decLe, Omega.arith}
+use lib.{Dec.eqb, ListN.{length, getD, set, drop}, Seq.{ext-getD, getD-set-other}}
 use borrow.Author.Tests.{lt-ltb, le-ltb}
 use Rattle.word.specs.Link.{linkOf}
-use Rattle.model.specs.declared.Entry.{Entry}
-use Rattle.model.specs.Tables.{withMark}
-use Rattle.model.specs.Sound.{from1, linkSound}
+use Rattle.model.{specs.{declared.Entry.Entry, Tables.withMark, Sound.{from1, linkSound}}, proofs.tests.Truth.not-both}
 use Rattle.model.specs.Walk.{Walk, entries, broken, andThen, along, isBroken, met}
-use Rattle.model.proofs.tests.Truth.{not-both}
 use Rattle.join_model.specs.Closed.{filled, rightOf, labelOf, markedTo}
 use Rattle.join_model.proofs.Filling.{filled-length, filled-beyond, filled-at}
 use Rattle.join.specs.Scratch.{trail, rowsDown, rightTo}

@@ -1,33 +1,21 @@
 -- Refused, nothing to lay, or laid: what the joining leaves is what the definition says.
-use mathlib.Core.Path.{_≡_, refl, sym, ap, ap₂, subst, _∙_}
-use mathlib.Core.Bool.{Bool, true, false, _&&_, cond}
+use mathlib.Core.{Path.{_≡_, refl, sym, ap, ap₂, subst, _∙_}, Bool.{Bool, true, false, _&&_, cond}, Logic._≢_}
 use mathlib.Core.List.{List, [], _∷_, reverse}
-use mathlib.Core.Logic.{_≢_}
 use Prim.Native.Nat.{ℕ, zero, suc, _+_, _-_, _<_, _≤_}
 use native.Mathlib.Omega.{arith}
-use lib.Dec.{eqb}
-use lib.ListN.{length, getD, set, length-map, length-reverse}
+use lib.{Dec.eqb, ListN.{length, getD, set, length-map, length-reverse}}
 use borrow.Author.Tests.{eqb-false, ne-eqb, ltb-true}
 use Rattle.word.specs.Anchor.{anchorOf}
-use Rattle.model.specs.declared.Control.{Control}
-use Rattle.model.specs.declared.Entry.{Entry}
-use Rattle.model.specs.declared.Record.{Record}
-use Rattle.model.specs.Tables.{Tables, Queue, queueOf, idle, withCall, taskAt, tablesOf}
-use Rattle.model.specs.Sound.{rowTests, rowsFit}
+use Rattle.model.specs.{declared.{Control.Control, Entry.Entry, Record.Record}, Sound.{rowTests, rowsFit}}
+use Rattle.model.specs.{Tables.{Tables, Queue, queueOf, idle, withCall, taskAt, tablesOf}, Sides.isEmpty}
 use Rattle.model.specs.Walk.{Walk, entries, broken, along, contents, isBroken, met, walkFrom}
-use Rattle.model.proofs.tests.Rules.{tests}
-use Rattle.model.proofs.tests.Truth.{split, not-both}
-use Rattle.model.specs.Sides.{isEmpty}
-use Rattle.join_model.specs.Merge.{merge}
-use Rattle.stock_model.specs.Accounts.{waitingLabels}
-use Rattle.join_model.specs.Join.{anchorIn, lanes, joinRefusal, Joined, join, laid}
-use Rattle.join_model.specs.Closed.{filled, leftOf, labelOf, markedTo, held, holding, lateFor, closedRefusal, joinClosed}
-use Rattle.join_model.proofs.Merged.{interleaved, length-merged}
-use Rattle.join_model.proofs.Filling.{filled-at}
+use Rattle.model.proofs.tests.{Rules.tests, Truth.{split, not-both}}
+use Rattle.join_model.specs.{Merge.merge, Join.{anchorIn, lanes, joinRefusal, Joined, join, laid}, Closed.joinClosed}
+use Rattle.join_model.specs.Closed.{filled, leftOf, labelOf, markedTo, held, holding, lateFor, closedRefusal}
+use Rattle.join_model.proofs.{Merged.{interleaved, length-merged}, Filling.filled-at, Laws.tag-room}
 use Rattle.join_model.proofs.Closed.{Rests, same-refusal, accepted, closed-join}
-use Rattle.join_model.proofs.Laws.{tag-room}
-use Rattle.join.specs.declared.Done.{Done}
-use Rattle.join.specs.Scratch.{trail, walkedTo, labelVia, rowsDown, rightTo}
+use Rattle.stock_model.specs.Accounts.{waitingLabels}
+use Rattle.join.specs.{declared.Done.Done, Scratch.{trail, walkedTo, labelVia, rowsDown, rightTo}}
 use Rattle.join.specs.Anchored.{anchored, Joins}
 use Rattle.join.proofs.Filled.{overwritten, linked, names, trod, turned}
 

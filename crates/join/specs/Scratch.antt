@@ -1,9 +1,7 @@
 -- What the third's link tables hold while the labels are merged: the slots of a lane, read from its right end.
-use mathlib.Core.Bool.{cond}
-use mathlib.Core.List.{List, [], _∷_}
+use mathlib.Core.{Bool.cond, List.{List, [], _∷_}}
 use Prim.Native.Nat.{ℕ, zero, suc, _-_}
-use lib.Dec.{ltb}
-use lib.ListN.{getD}
+use lib.{Dec.ltb, ListN.getD}
 use Rattle.word.specs.Link.{linkOf}
 use Rattle.join_model.specs.Closed.{rightOf}
 

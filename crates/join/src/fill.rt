@@ -2,13 +2,10 @@
 use model::Control;
 use word::Anchor;
 use word::Link;
-ghost use mathlib.Core.Path.{_≡_};
-ghost use mathlib.Core.List.{_∷_};
+ghost use mathlib.Core.{Path._≡_, List._∷_};
 ghost use Prim.Native.Nat.{ℕ, _+_, _≤_, _<_};
-ghost use Rattle.word.specs.Anchor.{anchorOf};
-ghost use Rattle.word.specs.Link.{packLink};
-ghost use Rattle.join_model.specs.Merge.{merge};
-ghost use Rattle.join_model.specs.Closed.{filled, leftOf, labelOf, markedTo};
+ghost use Rattle.word.specs.{Anchor.anchorOf, Link.packLink};
+ghost use Rattle.join_model.specs.{Merge.merge, Closed.{filled, leftOf, labelOf, markedTo}};
 ghost use Rattle.join.specs.Scratch.{rowsDown, walkedTo, labelVia, rightTo};
 
 /// Rows 1 to n: the slots of a queue from its right end along Left links.

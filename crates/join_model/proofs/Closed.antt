@@ -1,22 +1,15 @@
 -- The joining by pushes is the joining word by word.
-use mathlib.Core.Path.{_≡_, refl, sym, ap, _∙_}
-use mathlib.Core.Bool.{Bool, true, false, cond}
-use mathlib.Core.List.{List, [], _∷_, _++_}
+use mathlib.Core.{Path.{_≡_, refl, sym, ap, _∙_}, Bool.{Bool, true, false, cond}, List.{List, [], _∷_, _++_}}
 use Prim.Native.Nat.{ℕ, _≤_}
 use lib.{Dec.eqb, ListN.length}
 use borrow.Author.Tests.{eqb-true, ltb-false, not-false}
-use Rattle.model.specs.{Tables.Queue, Report.busy, History.run, Lists.All}
-use Rattle.model.specs.Walk.{contents, isBroken}
-use Rattle.model.specs.Refusals.{Rule, rule, first}
-use Rattle.model.proofs.tests.Rules.{tests, cleared}
-use Rattle.model.proofs.tests.Truth.{and-true, split}
-use Rattle.join_model.specs.Join.{anchorIn, lanes, pushes, outcomes, anyLate, sourceFits, thirdFits, atRest, fresh}
-use Rattle.join_model.specs.Join.{rulesBefore33, joinRules, joinRefusal, Joined, joined, join}
+use Rattle.model.specs.{Tables.Queue, Report.busy, History.run, Lists.All, Walk.{contents, isBroken}}
+use Rattle.model.{specs.Refusals.{Rule, rule, first}, proofs.tests.{Rules.{tests, cleared}, Truth.{and-true, split}}}
+use Rattle.join_model.specs.Join.{anchorIn, lanes, pushes, outcomes, anyLate, sourceFits, thirdFits, atRest, join}
+use Rattle.join_model.specs.Join.{fresh, rulesBefore33, joinRules, joinRefusal, Joined, joined}
 use Rattle.join_model.specs.Closed.{lateFor, held, holding, closedRefusal, joinClosed}
 use Rattle.join_model.specs.Laws.{ClosedForm, AllAnswered, NotLent, answers, besides}
-use Rattle.join_model.proofs.Fresh.{Fresh, is-fresh}
-use Rattle.join_model.proofs.Ran.{Ran}
-use Rattle.join_model.proofs.Lanes.{late-is, pushed-is}
+use Rattle.join_model.proofs.{Fresh.{Fresh, is-fresh}, Ran.Ran, Lanes.{late-is, pushed-is}}
 
 -- A last rule counts only where none before it applies.
 same-last : (l : List Rule) (n : ℕ) (b c : Bool) → (first l ≡ 0 → b ≡ c) → first (l ++ (rule n b ∷ [])) ≡ first (l ++ (rule n c ∷ []))

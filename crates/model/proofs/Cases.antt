@@ -1,31 +1,25 @@
 -- Cases worked beside those of `Bench`: each refusal of an opening and of a start, what a step may not touch, which changes count as failed, walks that
 -- lead astray, what a report tells and leaves out, the number of each outcome, and a task stepped until it answers. Each line holds by computing
 -- the meanings.
-use mathlib.Core.Path.{_≡_, refl}
-use mathlib.Core.Bool.{true, false}
-use mathlib.Core.List.{List, [], _∷_, _++_, map}
+use mathlib.Core.{Path.{_≡_, refl}, Bool.{true, false}, List.{List, [], _∷_, _++_, map}}
 use Prim.Native.Nat.{ℕ}
 use lib.ListN.{replicate}
-use Rattle.model.specs.declared.{Call.Call, Reply.Reply}
-use Rattle.model.specs.declared.Answer.the-variants.{Pushed, Empty, NoFreeSlot}
-use Rattle.model.specs.declared.Outcome.the-variants.{Refused, Moved}
-use Rattle.model.specs.declared.Op.the-variants.{PushPooled}
-use Rattle.model.specs.declared.Opening.the-variants as opening
-use Rattle.model.specs.declared.Reported.the-variants as reported
-use Rattle.model.specs.Tables.{Tables, Queue, tablesOf, queueOf, unopened, openedControl, withWords, newCall, withSeen, withNeighbour, withLink}
-use Rattle.model.specs.Tables.{withMarks, counting, unused, started}
-use Rattle.model.specs.Sound.{anchorSound, linkSound, controlSound, recordSound, rowsFit}
-use Rattle.model.specs.Places.{sideOf, row, linkSide, reading, at1, at2, at3, new4, at4, at5, at6, at7, at9, at10, at11, at12, at13, at14}
-use Rattle.model.specs.Places.{at15, at16, at17, move}
+use Rattle.model.specs.declared.{Call.Call, Reply.Reply, Answer.the-variants.{Pushed, Empty, NoFreeSlot}}
+use Rattle.model.specs.declared.{Outcome.the-variants.{Refused, Moved}, Op.the-variants.PushPooled}
+use Rattle.model.specs.Tables.{Tables, Queue, tablesOf, queueOf, unopened, openedControl, withWords, newCall}
+use Rattle.model.specs.Tables.{withSeen, withNeighbour, withLink, withMarks, counting, unused, started}
+use Rattle.model.specs.{Sound.{anchorSound, linkSound, controlSound, recordSound, rowsFit}, Lists.{count, listed}}
+use Rattle.model.specs.Places.{sideOf, row, linkSide, reading, at1, at2, at3, new4, at4, at5, at6, at7, at9, at10}
+use Rattle.model.specs.{Places.{at11, at12, at13, at14, at15, at16, at17, move}, History.{Request, run, final}}
 use Rattle.model.specs.Route.{pushRoute, popRoute, route, onward, answer, goes, counted}
 use Rattle.model.specs.Refusals.{openRefusal, startRefusal, stepSound, stepRefusal, alone, reportRefusal}
-use Rattle.model.specs.Calls.{opened, openAs, openQueue, openPooled, pushStart, pushPooledStart, popStart, finish, step, actOn, act, openingCode, replyOf}
+use Rattle.model.specs.Calls.{opened, openAs, openQueue, openPooled, pushStart, pushPooledStart, popStart, finish}
+use Rattle.model.specs.{Calls.{step, actOn, act, openingCode, replyOf}, Solo.{soloRun, soloSteps}}
 use Rattle.model.specs.Walk.{Walk, entries, broken, along, contents}
 use Rattle.model.specs.Report.{busy, waiting, takenSlots, tell, report, reportCode, retryCounts}
-use Rattle.model.specs.History.{Request, run, final}
-use Rattle.model.specs.Solo.{soloRun, soloSteps}
+use Rattle.model.specs.declared.Opening.the-variants as opening
+use Rattle.model.specs.declared.Reported.the-variants as reported
 use Rattle.model.proofs.Bench.{zeros, fresh, push, pop, steps, outcomes, at, got, one, two}
-use Rattle.model.specs.Lists.{count, listed}
 
 -- Tables for 16 tasks and 1,023 slots.
 abbrev largest : Queue

@@ -1,36 +1,25 @@
 -- A slot is marked exactly while it waits in the queue, or a record holds it that is not giving it back. (Line 21.)
-use mathlib.Core.Bool.{Bool, cond, false, not, true}
-use mathlib.Core.List.{List, [], _∷_}
-use mathlib.Core.Logic.{_≢_, _⊎_, inl, inr}
+use mathlib.Core.{Bool.{Bool, cond, false, not, true}, List.{List, [], _∷_}, Logic.{_≢_, _⊎_, inl, inr}}
 use mathlib.Core.Path.{_∙_, _≡_, ap, refl, subst, sym}
 use Prim.Native.Nat.{_<_, _≤_, ℕ}
 use native.Mathlib.Omega.{arith}
 use lib.Dec.{eqb, leb}
 use borrow.Author.Tests.{eqb-true, leb-true, lt-leb}
 use Rattle.word.specs.Anchor.{anchorOf}
-use Rattle.model.specs.{Calls.opened, Walk.entries, Lists.All, Sides.near}
+use Rattle.model.specs.{Calls.opened, Walk.entries, Lists.All, Sides.near, History.waits}
 use Rattle.model.specs.History.{InUse, Ledger, MarkedWhile, MarksNamed, MarksRight, Taken, Waits, final, here}
-use Rattle.model.specs.History.{is-taken, later, pop-gives, pop-holds, popGives, popHolds, push-holds, pushHolds, waits}
+use Rattle.model.specs.History.{is-taken, later, pop-gives, pop-holds, popGives, popHolds, push-holds, pushHolds}
 use Rattle.model.specs.Tables.{atPlace, Queue, Tables, isPooled, marked, recordAt}
-use Rattle.model.specs.declared.{Entry.Entry, Call.Call}
-use Rattle.model.proofs.tests.{ByPlace.by-place, Rules.tests}
-use Rattle.model.proofs.tests.Truth.{and-true, decide-eq, not-both}
-use Rattle.model.proofs.lists.{In.In, Slots.slots}
-use Rattle.model.proofs.machine.Book.{BookCall}
+use Rattle.model.specs.{declared.{Entry.Entry, Call.Call}, Kinds.{giving, isPop, isPush}}
+use Rattle.model.proofs.tests.{ByPlace.by-place, Rules.tests, Truth.{and-true, decide-eq, not-both}}
+use Rattle.model.proofs.{lists.{In.In, Slots.slots}, machine.Book.BookCall, ledger.Matched.Matched}
+use Rattle.model.proofs.invariant.{Owners.{Owner, held, queued, shows}, Tasks.{Own, Stage, Task}}
+use Rattle.model.proofs.places.{NoFreeSlot.{Holds, Pushes, used}, Marking.none-giving, Owned.push-pop}
+use Rattle.model.proofs.bridge.{Operations.task-of, View.{kindOf, placeOf, recOf, stateOf, view}}
+use Rattle.model.proofs.{unsound.Safe.Safe, progress.Reached.{final-reached, open-reached}}
+use Rattle.model.proofs.{NoFreeSlot.{Held, tip-near, used-is}, Openings.after-opening}
 use Rattle.model.proofs.machine.Machine as M
-use Rattle.model.proofs.invariant.Owners.{Owner, held, queued, shows}
-use Rattle.model.proofs.invariant.Tasks.{Own, Stage, Task}
-use Rattle.model.proofs.places.NoFreeSlot.{Holds, Pushes, used}
-use Rattle.model.proofs.places.{Marking.none-giving, Owned.push-pop}
-use Rattle.model.proofs.bridge.Operations.{task-of}
-use Rattle.model.proofs.bridge.View.{kindOf, placeOf, recOf, stateOf, view}
-use Rattle.model.proofs.ledger.Matched.{Matched}
 use Rattle.model.proofs.ledger.Waiting as waiting
-use Rattle.model.proofs.unsound.Safe.{Safe}
-use Rattle.model.proofs.progress.Reached.{final-reached, open-reached}
-use Rattle.model.proofs.NoFreeSlot.{Held, tip-near, used-is}
-use Rattle.model.proofs.Openings.{after-opening}
-use Rattle.model.specs.Kinds.{giving, isPop, isPush}
 
 -- What waits is in the sequential deque.
 waits-in : (l : List Entry) (x : ℕ) → Waits x (entries l) → In x (slots l)

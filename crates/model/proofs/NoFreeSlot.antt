@@ -1,40 +1,26 @@
 -- *No slot* is true: when a step answers so, every slot is in the queue or a task's. (Request #104.)
-use mathlib.Core.Bool.{Bool, cond, false, true}
-use mathlib.Core.List.{List, [], _∷_}
-use mathlib.Core.Logic.{_≢_, _⊎_, inl, inr}
+use mathlib.Core.{Bool.{Bool, cond, false, true}, List.{List, [], _∷_}, Logic.{_≢_, _⊎_, inl, inr}}
 use mathlib.Core.Path.{_∙_, _≡_, ap, refl, subst, sym}
 use Prim.Native.Nat.{_<_, _≤_, ℕ}
 use native.Mathlib.{Decide.decLt, Omega.arith}
-use lib.Dec.{eqb, leb, ltb}
-use lib.ListN.{List·getD-eq-default}
+use lib.{Dec.{eqb, leb, ltb}, ListN.List·getD-eq-default}
 use borrow.Author.Tests.{eq-eqb, eqb-false, eqb-true, ltb-true}
 use Rattle.word.specs.Anchor.{anchorOf}
-use Rattle.model.specs.Calls.{Acted, act, actOn, finish, opened, step}
-use Rattle.model.specs.History.{AfterOpening, InUse, NoFreeSlotRight, NoFreeSlotTrue, Waits, final, here, is-taken, later, pop-gives, pop-holds, popGives}
-use Rattle.model.specs.History.{popHolds, push-holds, pushHolds, waits}
-use Rattle.model.specs.Refusals.{among, stepRefusal}
-use Rattle.model.specs.Walk.{entries}
-use Rattle.model.specs.Tables.{atPlace, Queue, Tables, recordAt}
-use Rattle.model.specs.declared.Answer.the-variants.{NoFreeSlot}
-use Rattle.model.specs.declared.{Answer.Answer, Entry.Entry, Call.Call}
-use Rattle.model.specs.declared.Op.the-variants.{Step}
-use Rattle.model.specs.declared.Outcome.the-variants.{Moved}
-use Rattle.model.proofs.tests.ByPlace.{by-place}
-use Rattle.model.proofs.tests.Rules.{_and_, passes}
-use Rattle.model.proofs.tests.Truth.{and-of, by-test, decide-eq}
-use Rattle.model.proofs.lists.{In.In, Slots.slots}
+use Rattle.model.specs.{Calls.{Acted, act, actOn, finish, opened, step}, Refusals.{among, stepRefusal}}
+use Rattle.model.specs.History.{AfterOpening, InUse, NoFreeSlotRight, NoFreeSlotTrue, Waits, final, here, later}
+use Rattle.model.specs.History.{is-taken, pop-gives, pop-holds, popGives, popHolds, push-holds, pushHolds, waits}
+use Rattle.model.specs.{Walk.entries, Tables.{atPlace, Queue, Tables, recordAt}}
+use Rattle.model.specs.declared.{Answer.{the-variants.NoFreeSlot, Answer}, Entry.Entry, Call.Call}
+use Rattle.model.specs.declared.{Op.the-variants.Step, Outcome.the-variants.Moved}
+use Rattle.model.proofs.tests.{ByPlace.by-place, Rules.{_and_, passes}, Truth.{and-of, by-test, decide-eq}}
+use Rattle.model.proofs.{lists.{In.In, Slots.slots}, places.NoFreeSlot.{Holds, Used, no-free-slot}}
+use Rattle.model.proofs.{bridge.{Accepted.{Stepping, step-accepted}, Facts.RecordFine}, ledger.Matched.Matched}
+use Rattle.model.proofs.{bridge.Operations.{reply, step-lacks}, unsound.{Safe.Safe, Suits.kind-push}}
+use Rattle.model.proofs.bridge.View.{anchorSeen, answerSeen, kindOf, placeList, placeOf, recOf, stateOf, view}
+use Rattle.model.proofs.{progress.Reached.{final-reached, open-reached}, Openings.after-opening}
 use Rattle.model.proofs.machine.Book as B
 use Rattle.model.proofs.machine.Machine as M
-use Rattle.model.proofs.places.NoFreeSlot.{Holds, Used, no-free-slot}
-use Rattle.model.proofs.bridge.Accepted.{Stepping, step-accepted}
-use Rattle.model.proofs.bridge.Facts.{RecordFine}
-use Rattle.model.proofs.bridge.Operations.{reply, step-lacks}
-use Rattle.model.proofs.bridge.View.{anchorSeen, answerSeen, kindOf, placeList, placeOf, recOf, stateOf, view}
-use Rattle.model.proofs.ledger.Matched.{Matched}
 use Rattle.model.proofs.ledger.Waiting as waiting
-use Rattle.model.proofs.unsound.{Safe.Safe, Suits.kind-push}
-use Rattle.model.proofs.progress.Reached.{final-reached, open-reached}
-use Rattle.model.proofs.Openings.{after-opening}
 
 -- A slot of the sequential deque waits.
 in-waits : (l : List Entry) (x : ℕ) → In x (slots l) → Waits x (entries l)

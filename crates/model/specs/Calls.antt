@@ -1,19 +1,16 @@
 -- What every call answers and what each table then holds. (Document 01: Tables, Places, and how a call is refused.)
-use mathlib.Core.Bool.{Bool, true, false, cond}
-use mathlib.Core.List.{List, _∷_, _++_}
+use mathlib.Core.{Bool.{Bool, true, false, cond}, List.{List, _∷_, _++_}}
 use Prim.Native.Nat.{ℕ, _+_, _/_}
-use lib.Dec.{eqb}
-use lib.ListN.{getD, set, drop}
-use Rattle.model.specs.declared.{Call.Call, Record.Record, Entry.Entry, Outcome.Outcome, Opening.Opening, Op.Op, Reply.Reply}
+use lib.{Dec.eqb, ListN.{getD, set, drop}}
+use Rattle.model.specs.declared.{Call.Call, Record.Record, Entry.Entry, Opening.Opening, Reply.Reply}
+use Rattle.model.specs.{declared.Outcome.{Outcome, the-variants.{Refused, Moved}}, Refusals.stepRefusal}
+use Rattle.model.specs.{declared.Op.{Op, the-variants.{Push, Pop, PushPooled, Step}}, Lists.{zeroed, climb}}
 use Rattle.model.specs.declared.Answer.the-variants.{Running, Pushed, Empty, Popped, NoFreeSlot}
-use Rattle.model.specs.declared.Outcome.the-variants.{Refused, Moved}
-use Rattle.model.specs.declared.Opening.the-variants as opening
-use Rattle.model.specs.declared.Op.the-variants.{Push, Pop, PushPooled, Step}
-use Rattle.model.specs.Tables.{Tables, Queue, tablesOf, openedControl, unused, counting, withCall, started, asking, taskAt, withTaken}
-use Rattle.model.specs.Places.{row, wordFound, Move, move, apply}
+use Rattle.model.specs.Tables.{Tables, Queue, tablesOf, openedControl, unused, counting, withCall, started}
+use Rattle.model.specs.{Tables.{asking, taskAt, withTaken}, Places.{row, wordFound, Move, move, apply}}
 use Rattle.model.specs.Route.{route, onward, answer, goes, counted}
-use Rattle.model.specs.Refusals.{openRefusal, Lent, among, alone, pushRefusal, pushPooledRefusal, popRefusal, stepRefusal}
-use Rattle.model.specs.Lists.{zeroed, climb}
+use Rattle.model.specs.Refusals.{openRefusal, Lent, among, alone, pushRefusal, pushPooledRefusal, popRefusal}
+use Rattle.model.specs.declared.Opening.the-variants as opening
 
 -- A next table with all slots stacked, slot 1 on top: row n holds n + 1, rows 0 and slots hold 0; rows beyond are as they were.
 abbrev pub stacked : ℕ → List ℕ → List ℕ

@@ -1,10 +1,9 @@
 -- The sequential deque. (Document 01: The clerk.)
-use mathlib.Core.Bool.{Bool, true, false, cond}
-use mathlib.Core.List.{List, [], _∷_, reverse}
+use mathlib.Core.{Bool.{Bool, true, false, cond}, List.{List, [], _∷_, reverse}}
 use Prim.Native.Nat.{ℕ}
 use lib.Dec.{eqb}
-use Rattle.model.specs.declared.{Entry.Entry, Answer.Answer}
-use Rattle.model.specs.declared.Answer.the-variants.{Running, Pushed, Empty, Popped, NoFreeSlot}
+use Rattle.model.specs.declared.Entry.{Entry}
+use Rattle.model.specs.declared.Answer.{Answer, the-variants.{Running, Pushed, Empty, Popped, NoFreeSlot}}
 
 -- A deque is a list from left to right; seen from a side, the end there comes first.
 abbrev pub seenFrom : {A : Type 0} → ℕ → List A → List A

@@ -1,24 +1,15 @@
 -- Histories: the events of a list of starts and steps, the calls among them, and what is promised of them. (Document 01: The clerk.)
-use mathlib.Core.Path.{_≡_}
-use mathlib.Core.Bool.{Bool, true, false, _&&_, _||_, not, cond}
-use mathlib.Core.List.{List, [], _∷_}
+use mathlib.Core.{Path._≡_, Bool.{Bool, true, false, _&&_, _||_, not, cond}, List.{List, [], _∷_}}
 use Prim.Native.Nat.{ℕ, suc, _<_, _≤_}
-use lib.Dec.{eqb, leb}
-use lib.ListN.{length}
+use lib.{Dec.{eqb, leb}, ListN.length}
 use Rattle.word.specs.Anchor.{anchorOf}
-use Rattle.model.specs.declared.{Entry.Entry, Answer.Answer, Outcome.Outcome, Op.Op, Call.Call, Report.Report}
-use Rattle.model.specs.declared.Answer.the-variants.{Running, Pushed, Empty, Popped, NoFreeSlot}
-use Rattle.model.specs.declared.Outcome.the-variants.{Refused, Moved}
-use Rattle.model.specs.declared.Op.the-variants.{Push, Pop, PushPooled, Step}
-use Rattle.model.specs.Tables.{Queue, marked, recordAt}
-use Rattle.model.specs.declared.Opening.the-variants.{Opened}
+use Rattle.model.specs.declared.{Entry.Entry, Outcome.{Outcome, the-variants.{Refused, Moved}}, Call.Call}
+use Rattle.model.specs.declared.Answer.{Answer, the-variants.{Running, Pushed, Empty, Popped, NoFreeSlot}}
+use Rattle.model.specs.{declared.{Op.{Op, the-variants.{Push, Pop, PushPooled, Step}}, Report.Report}, Sides.near}
+use Rattle.model.specs.{declared.Opening.the-variants.Opened, Tables.{Queue, marked, recordAt}, Report.report}
+use Rattle.model.specs.{Calls.{openAs, act}, Walk.{Walk, entries, contents}, Deque.{saysNoFreeSlot, serveFor}}
+use Rattle.model.specs.{Lists.{every, All}, Kinds.{isPush, isPop, giving}}
 use Rattle.model.specs.declared.Reported.the-variants as reported
-use Rattle.model.specs.Calls.{openAs, act}
-use Rattle.model.specs.Walk.{Walk, entries, contents}
-use Rattle.model.specs.{Report.report, Sides.near}
-use Rattle.model.specs.Deque.{saysNoFreeSlot, serveFor}
-use Rattle.model.specs.Lists.{every, All}
-use Rattle.model.specs.Kinds.{isPush, isPop, giving}
 
 -- An operation of a task: an element of the list, with any numbers.
 pub record Request : Type 0 where

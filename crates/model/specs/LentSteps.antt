@@ -1,15 +1,10 @@
 -- Lists in which a step on one lent record takes the place of its task's step. (Document 01: The clerk.)
-use mathlib.Core.{Path._≡_, Logic._≢_}
-use mathlib.Core.List.{List, [], _∷_, map}
+use mathlib.Core.{Path._≡_, Logic._≢_, List.{List, [], _∷_, map}}
 use Prim.Native.Nat.{ℕ, _<_, _≤_}
 use lib.ListN.{length}
-use Rattle.model.specs.declared.Record.{Record}
-use Rattle.model.specs.declared.Outcome.the-variants.{Refused}
-use Rattle.model.specs.declared.Op.the-variants.{Step}
-use Rattle.model.specs.Tables.{Tables, Queue, taskAt}
-use Rattle.model.specs.Calls.{Done, back, act, stepLent}
+use Rattle.model.specs.{declared.{Record.Record, Outcome.the-variants.Refused, Op.the-variants.Step}, Lists.All}
+use Rattle.model.specs.{Tables.{Tables, Queue, taskAt}, Calls.{Done, back, act, stepLent}}
 use Rattle.model.specs.History.{Request, Event, run, final}
-use Rattle.model.specs.Lists.{All}
 
 -- An operation of the list; or a task's record is lent, moved on by one step, and put back as the task's row.
 pub data Turn : Type 0 where

@@ -1,18 +1,14 @@
 -- What each place does: one touch of the shared tables at the most. (Document 01: Places, the table's columns push and pop.)
 use mathlib.Core.Bool.{Bool, true, false, _&&_, _||_, cond}
 use Prim.Native.Nat.{ℕ, _+_}
-use lib.Dec.{eqb}
-use lib.ListN.{getD, set}
-use Rattle.word.specs.declared.Anchor.{Anchor}
-use Rattle.word.specs.Anchor.{anchorOf, packAnchor}
-use Rattle.word.specs.Link.{linkOf, packLink}
-use Rattle.model.specs.declared.{Control.Control, Call.Call}
-use Rattle.model.specs.Tables.{Tables, isPooled, withMark}
-use Rattle.model.specs.Tables.{withOwn, withSeen, withNeighbour, withLink, withAnchor, withHead, linked, withMarks, withNext, withTaken}
+use lib.{Dec.eqb, ListN.{getD, set}}
+use Rattle.word.specs.{declared.Anchor.Anchor, Anchor.{anchorOf, packAnchor}, Link.{linkOf, packLink}}
+use Rattle.model.specs.{declared.{Control.Control, Call.Call}, Kinds.{isPush, isPop, helping}}
+use Rattle.model.specs.Tables.{Tables, isPooled, withMark, withOwn, withSeen, withNeighbour, withLink, withAnchor}
+use Rattle.model.specs.Tables.{withHead, linked, withMarks, withNext, withTaken}
 use Rattle.model.specs.Sides.{opposite, near, far, facing, links, pushing, statusSide, isEmpty}
-use Rattle.model.specs.Kinds.{isPush, isPop, helping}
-use Rattle.model.specs.Route.{done, equal, failedReading, hasFailed, namedQueue, noneFree, onlyWay, pooledQueue, readEmpty, readSingle}
-use Rattle.model.specs.Route.{readStable, readUnstable, someFree, unequal}
+use Rattle.model.specs.Route.{done, equal, failedReading, hasFailed, namedQueue, noneFree, onlyWay, pooledQueue}
+use Rattle.model.specs.Route.{readEmpty, readSingle, readStable, readUnstable, someFree, unequal}
 
 -- The side: at 1 to 4 and 11 the task's, at 5 to 10 the one that the status as read names.
 unfoldable pub sideOf : Call → ℕ

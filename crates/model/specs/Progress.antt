@@ -1,16 +1,11 @@
 -- How many steps may pass before a call takes effect or answers. (Request #108.)
-use mathlib.Core.Bool.{Bool, true, false, _||_, cond}
-use mathlib.Core.List.{List, [], _∷_}
-use mathlib.Core.{Logic._≢_, Path._≡_}
+use mathlib.Core.{Bool.{Bool, true, false, _||_, cond}, List.{List, [], _∷_}, Logic._≢_, Path._≡_}
 use Prim.Native.Nat.{ℕ, zero, suc, _+_, _*_, _<_, _≤_}
 use lib.Dec.{eqb}
-use Rattle.model.specs.declared.{Outcome.Outcome, Op.Op}
-use Rattle.model.specs.declared.Outcome.the-variants.{Refused, Moved}
-use Rattle.model.specs.declared.Op.the-variants.{Push, Pop, PushPooled, Step}
+use Rattle.model.specs.{declared.Outcome.{Outcome, the-variants.{Refused, Moved}}, Ends.{answerEnds, endsCall}}
+use Rattle.model.specs.{declared.Op.{Op, the-variants.{Push, Pop, PushPooled, Step}}, Solo.{SoloDone, soloRun}}
 use Rattle.model.specs.Tables.{Queue, isPooled, recordAt}
-use Rattle.model.specs.Ends.{answerEnds, endsCall}
 use Rattle.model.specs.History.{Request, Event, run, final, isEffect, AfterOpening}
-use Rattle.model.specs.Solo.{SoloDone, soloRun}
 
 -- A call takes effect or answers: only an accepted step does.
 abbrev pub tookEffectOrAnsweredBy : Event → Op → Outcome → Bool

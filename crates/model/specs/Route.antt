@@ -1,12 +1,9 @@
 -- The route from place to place, and what a step answers. (Document 01: Places, the column next, and below the table.)
-use mathlib.Core.Bool.{Bool, cond}
-use mathlib.Core.List.{List, [], _∷_}
+use mathlib.Core.{Bool.{Bool, cond}, List.{List, [], _∷_}}
 use Prim.Native.Nat.{ℕ, _+_}
-use lib.Dec.{ltb, leb, eqb}
-use lib.ListN.{getD}
-use Rattle.model.specs.declared.{Call.Call, Entry.Entry, Answer.Answer}
-use Rattle.model.specs.declared.Answer.the-variants.{Running, Pushed, Empty, Popped, NoFreeSlot}
-use Rattle.model.specs.Tables.{atPlace, idle}
+use lib.{Dec.{ltb, leb, eqb}, ListN.getD}
+use Rattle.model.specs.{declared.{Call.Call, Entry.Entry}, Tables.{atPlace, idle}}
+use Rattle.model.specs.declared.Answer.{Answer, the-variants.{Running, Pushed, Empty, Popped, NoFreeSlot}}
 
 -- Where a route leads: to a place, 1 to 17, or to one of these.
 abbrev pub leave : ℕ

@@ -1,6 +1,5 @@
 -- Sides and the ends of Anchor, the status that names a side. (Document 01: Tables, Places.)
-use mathlib.Core.Bool.{Bool, _&&_, cond}
-use mathlib.Core.List.{List}
+use mathlib.Core.{Bool.{Bool, _&&_, cond}, List.List}
 use Prim.Native.Nat.{ℕ}
 use lib.Dec.{eqb}
 use Rattle.word.specs.declared.Anchor.{Anchor}

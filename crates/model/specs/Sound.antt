@@ -1,14 +1,9 @@
 -- What is sound, and which tables are long enough: refusals 34 and 12. (Document 01: Refused because of the input, .. of the state.)
-use mathlib.Core.Bool.{Bool, _&&_, _||_, not, cond, Bool·beq}
-use mathlib.Core.List.{List, [], _∷_, _++_}
+use mathlib.Core.{Bool.{Bool, _&&_, _||_, not, cond, Bool·beq}, List.{List, [], _∷_, _++_}}
 use Prim.Native.Nat.{ℕ, _/_}
-use lib.Dec.{ltb, leb, eqb}
-use lib.ListN.{length}
-use Rattle.word.specs.declared.Anchor.{Anchor}
-use Rattle.word.specs.Anchor.{anchorOf}
-use Rattle.word.specs.Link.{linkOf, spareOf}
-use Rattle.model.specs.declared.{Control.Control, Call.Call}
-use Rattle.model.specs.{Tables.Tables, Lists.every}
+use lib.{Dec.{ltb, leb, eqb}, ListN.length}
+use Rattle.word.specs.{declared.Anchor.Anchor, Anchor.anchorOf, Link.{linkOf, spareOf}}
+use Rattle.model.specs.{declared.{Control.Control, Call.Call}, Tables.Tables, Lists.every}
 use Rattle.model.specs.Kinds.{isPush, isPop, helping, drawing, giving, owning}
 
 -- x is 1 to n.

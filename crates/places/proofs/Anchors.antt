@@ -1,26 +1,20 @@
 -- The model's step at the places that touch Anchor alone, in the terms of this crate: 1, 2, 4, 6, 8 and 10.
-use mathlib.Core.Path.{_≡_, refl, ap}
-use mathlib.Core.Bool.{true, false, cond}
+use mathlib.Core.{Path.{_≡_, refl, ap}, Bool.{true, false, cond}}
 use Prim.Native.Nat.{ℕ, _+_, _/_, _^_}
 use lib.Dec.{eqb, ltb}
 use borrow.Author.Tests.{eq-eqb, ne-eqb, not-true, not-false}
 use Rattle.word.specs.Anchor.{anchorOf, packAnchor}
-use Rattle.model.specs.declared.{Control.Control, Call.Call, Transition.Transition}
-use Rattle.model.specs.Tables.{atPlace, tablesOf, withSeen}
-use Rattle.model.specs.{Sound.anchorSound, Kinds.isPop}
+use Rattle.model.specs.{declared.{Control.Control, Call.Call, Transition.Transition}, Sound.anchorSound, Kinds.isPop}
+use Rattle.model.specs.{Tables.{atPlace, tablesOf, withSeen}, Refusals.{needsRow, meetsLink, meetsHead, stepSound}}
 use Rattle.model.specs.Places.{reading, sideOf, nothing, setAnchor, Move, compares, at1, at2, at4, at6, at10, move}
+use Rattle.model.specs.{Route.{route, pushRoute, popRoute, goes, counted}, Calls.{entryOf, finish}}
+use Rattle.model.{specs.Sides.{far, facing, pushing}, proofs.{laws.Onward.reads-on, tests.Truth.split}}
 use Rattle.model.specs.Places as model-places
-use Rattle.model.specs.Refusals.{needsRow, meetsLink, meetsHead, stepSound}
-use Rattle.model.specs.Route.{route, pushRoute, popRoute, goes, counted}
-use Rattle.model.specs.Calls.{entryOf, finish}
-use Rattle.model.proofs.laws.Onward.{reads-on}
 use Rattle.table.specs.Lent.{withTables}
 use Rattle.places.specs.Arm.{stepAt, Steps}
-use Rattle.decide.specs.Ending.{refused, settled, noEntry, failing, anchored, mayChange, changeRefused, remembered, compared}
-use Rattle.decide.specs.Decided.{new2, new4, new10}
+use Rattle.decide.specs.Ending.{refused, settled, noEntry, failing, anchored, mayChange, changeRefused, remembered}
+use Rattle.decide.specs.{Ending.compared, Decided.{new2, new4, new10}}
 use Rattle.decide.proofs.Routes.{kinds, readings, Quiet, quietly}
-use Rattle.model.proofs.tests.Truth.{split}
-use Rattle.model.specs.Sides.{far, facing, pushing}
 
 -- A change of Anchor from the word as read to new: done leads the record t on; failed is what a failed one comes to.
 unfoldable pub changed : Control → Call → ℕ → Call → ℕ → Transition → Transition

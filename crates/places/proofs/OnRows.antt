@@ -1,26 +1,18 @@
 -- The model's step at the places that touch a slot row or a mark, in the terms of this crate: 3, 5, 7, 9 and 11.
-use mathlib.Core.Path.{_≡_, refl, ap, _∙_}
-use mathlib.Core.Bool.{Bool, true, false, not, cond}
-use mathlib.Core.List.{List}
+use mathlib.Core.{Path.{_≡_, refl, ap, _∙_}, Bool.{Bool, true, false, not, cond}, List.List}
 use Prim.Native.Nat.{ℕ, _+_, _/_, _^_}
-use lib.Dec.{eqb, ltb}
-use lib.ListN.{getD, set}
-use Rattle.word.specs.Anchor.{anchorOf}
-use Rattle.word.specs.Link.{linkOf, packLink}
-use Rattle.model.specs.declared.{Control.Control, Call.Call, Transition.Transition}
+use lib.{Dec.{eqb, ltb}, ListN.{getD, set}}
+use Rattle.word.specs.{Anchor.anchorOf, Link.{linkOf, packLink}}
+use Rattle.model.specs.{declared.{Control.Control, Call.Call, Transition.Transition}, Sound.{from1, linkSound}}
 use Rattle.model.specs.Tables.{Tables, isPooled, withMark, tablesOf, withNeighbour, withLink, withOwn}
-use Rattle.model.specs.Sound.{from1, linkSound}
-use Rattle.model.specs.Places.{row, sideOf, linkSide, at3, at5, at7, at9, at11, move}
-use Rattle.model.specs.Refusals.{stepSound}
-use Rattle.model.specs.Route.{route, pushRoute, popRoute, goes, counted}
-use Rattle.model.specs.Calls.{Acted, finish}
+use Rattle.model.specs.{Places.{row, sideOf, linkSide, at3, at5, at7, at9, at11, move}, Refusals.stepSound}
+use Rattle.model.specs.{Route.{route, pushRoute, popRoute, goes, counted}, Calls.{Acted, finish}}
+use Rattle.model.proofs.tests.Truth.{split}
 use Rattle.table.specs.Lent.{withTables}
 use Rattle.places.specs.Arm.{stepAt}
 use Rattle.decide.specs.Ending.{refused, settled, noEntry, failing, rowSound, neighbourRead, linkRead}
-use Rattle.decide.specs.declared.touched.LinkWord.{LinkWord}
+use Rattle.decide.{specs.declared.touched.LinkWord.LinkWord, proofs.Routes.{kinds, Quiet, entry, quietly}}
 use Rattle.decide.specs.Decided.{madeOf, link3, link7, new3, new9, found3, found5, found7, found9, found11}
-use Rattle.decide.proofs.Routes.{kinds, Quiet, entry, quietly}
-use Rattle.model.proofs.tests.Truth.{split}
 
 -- The side that a status names, and the opposite of a side.
 mirror : (b : Bool) → eqb (cond b 1 0) 1 ≡ b

@@ -1,10 +1,8 @@
 //! The route from place to place: a constant table by place, kind and outcome, the branch that a place takes.
 use word::Anchor;
-ghost use mathlib.Core.Path.{_≡_};
-ghost use mathlib.Core.Bool.{cond};
+ghost use mathlib.Core.{Path._≡_, Bool.cond};
 ghost use lib.Dec.{eqb};
-ghost use Rattle.model.specs.Places.{reading};
-ghost use Rattle.model.specs.Route.{route};
+ghost use Rattle.model.specs.{Places.reading, Route.route};
 ghost use Rattle.route.specs.Constants.{rowOf, branchOf};
 
 // Where a route leads to no place.

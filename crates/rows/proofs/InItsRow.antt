@@ -1,25 +1,14 @@
 -- A record moved on in its row: what the parts of the step say comes to what the step of an admitted record means.
-use mathlib.Core.Path.{_≡_, sym, ap, subst, _∙_}
-use mathlib.Core.Bool.{cond}
-use mathlib.Core.List.{List}
+use mathlib.Core.{Path.{_≡_, sym, ap, subst, _∙_}, Bool.cond, List.List}
 use Prim.Native.Nat.{ℕ, _≤_}
-use Rattle.model.specs.declared.Control.{Control}
-use Rattle.model.specs.declared.Call.{Call}
-use Rattle.model.specs.declared.Record.{Record}
-use Rattle.model.specs.declared.Outcome.{Outcome}
-use Rattle.model.specs.declared.Outcome.the-variants.{Refused}
-use Rattle.model.specs.Tables.{Tables, isPooled, tablesOf}
-use Rattle.model.specs.Ends.{endsCall}
-use Rattle.model.specs.declared.Transition.{Transition}
+use Rattle.model.specs.declared.{Control.Control, Call.Call, Record.Record, Outcome.{Outcome, the-variants.Refused}}
+use Rattle.model.specs.{declared.Transition.Transition, Tables.{Tables, isPooled, tablesOf}, Ends.endsCall}
+use Rattle.model.specs.Refusals.{recordRefusal}
 use Rattle.table.specs.Lent.{withTables}
 use Rattle.places.specs.Arm.{stepAt}
-use Rattle.engine.specs.StepAdmitted.{stepAdmitted}
-use Rattle.model.specs.Refusals.{recordRefusal}
-use Rattle.engine.specs.Stored.{anchorAfter, callAfter, headAfter, ownAfter}
-use Rattle.engine.proofs.Stored.{moved-stored, deque-stored}
-use Rattle.engine.proofs.InParts.{stopped, at-place}
-use Rattle.rows.specs.Rows.{controlOf, callOf, recordOf, upperOf}
-use Rattle.rows.specs.Moved.{RowMoved}
+use Rattle.engine.specs.{StepAdmitted.stepAdmitted, Stored.{anchorAfter, callAfter, headAfter, ownAfter}}
+use Rattle.engine.proofs.{Stored.{moved-stored, deque-stored}, InParts.{stopped, at-place}}
+use Rattle.rows.specs.{Rows.{controlOf, callOf, recordOf, upperOf}, Moved.RowMoved}
 use Rattle.rows.proofs.Rows.{counting}
 
 -- What a step beyond 10 stores: head, own slot and label first, and then, with the step d that this hands on, the rest.

@@ -5,12 +5,9 @@ use calls::start;
 use model::Op;
 use model::Outcome;
 use sound::Lengths;
-ghost use mathlib.Core.Path.{_≡_};
-ghost use mathlib.Core.Bool.{cond};
+ghost use mathlib.Core.{Path._≡_, Bool.cond};
 ghost use lib.ListN.{set};
-ghost use Rattle.model.specs.declared.Op.the-variants.{Push, Pop, PushPooled};
-ghost use Rattle.model.specs.Calls.{Done, act};
-ghost use Rattle.model.specs.Ends.{isMoved};
+ghost use Rattle.model.specs.{declared.Op.the-variants.{Push, Pop, PushPooled}, Calls.{Done, act}, Ends.isMoved};
 ghost use Rattle.rows.specs.Rows.{uppersOf, queueIn, writesRow};
 
 /// Starts a push of a label in a slot.

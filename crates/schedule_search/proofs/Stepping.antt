@@ -1,36 +1,19 @@
 -- A step, what is found below it, and back: the queue is as before, and the step stands in the memory.
-use mathlib.Core.Path.{_≡_, refl, sym, ap, subst, _∙_}
-use mathlib.Core.Bool.{Bool, true, false, _||_, not, cond}
+use mathlib.Core.{Path.{_≡_, refl, sym, ap, subst, _∙_}, Bool.{Bool, true, false, _||_, not, cond}}
 use mathlib.Core.List.{List, [], _∷_}
 use Prim.Native.Nat.{ℕ, suc, _+_, _-_, _<_, _≤_}
 use native.Mathlib.Omega.{arith}
-use lib.Dec.{eqb}
-use lib.ListN.{length, getD, set}
-use lib.Seq.{sets, set-comm, set-getD, set-set}
-use Rattle.model.specs.declared.Call.{Call}
-use Rattle.model.specs.declared.Record.{Record}
-use Rattle.model.specs.declared.Outcome.{Outcome}
-use Rattle.model.specs.declared.Outcome.the-variants.{Refused, Moved}
-use Rattle.model.specs.Tables.{Tables, Queue, tablesOf, taskAt, unused}
-use Rattle.model.specs.Ends.{isMoved}
-use Rattle.model.specs.Places.{row, wordFound}
-use Rattle.model.specs.Refusals.{stepSound}
-use Rattle.model.specs.Calls.{Acted, finish, Done, back}
-use Rattle.model.proofs.tests.Truth.{either}
-use Rattle.engine.specs.StepAdmitted.{stepAdmitted}
-use Rattle.engine.proofs.InParts.{fault, here}
-use Rattle.rows.specs.Rows.{controlOf, callOf, recordOf, queueIn}
-use Rattle.rows.specs.Moved.{RowMoved}
+use lib.{Dec.eqb, ListN.{length, getD, set}, Seq.{sets, set-comm, set-getD, set-set}}
+use Rattle.model.specs.declared.{Call.Call, Record.Record, Outcome.{Outcome, the-variants.{Refused, Moved}}}
+use Rattle.model.specs.{Tables.{Tables, Queue, tablesOf, taskAt, unused}, Ends.isMoved, Places.{row, wordFound}}
+use Rattle.model.{specs.{Refusals.stepSound, Calls.{Acted, finish, Done, back}}, proofs.tests.Truth.either}
+use Rattle.engine.{specs.StepAdmitted.stepAdmitted, proofs.InParts.{fault, here}}
+use Rattle.rows.specs.{Rows.{controlOf, callOf, recordOf, queueIn}, Moved.RowMoved}
 use Rattle.rows.proofs.Rows.{record-read, record-put}
-use Rattle.schedule_model.specs.declared.Saved.{Saved}
-use Rattle.schedule_model.specs.Next.{Next, given, noMore}
-use Rattle.schedule_model.specs.Schedules.{atWork}
-use Rattle.schedule_model.specs.Search.{prefixed, stepped, skips, frees}
-use Rattle.schedule_model.specs.Undo.{saved, putBack}
+use Rattle.schedule_model.specs.{declared.Saved.Saved, Next.{Next, given, noMore}, Schedules.atWork}
+use Rattle.schedule_model.specs.{Search.{prefixed, stepped, skips, frees}, Undo.{saved, putBack}}
 use Rattle.schedule_model.proofs.Undone.{undoes}
-use Rattle.schedule_search.specs.declared.Found.{Found}
-use Rattle.schedule_search.specs.declared.undo.Kept.{Kept}
-use Rattle.schedule_search.specs.Stepped.{moved, Steps, restored}
+use Rattle.schedule_search.specs.{declared.{Found.Found, undo.Kept.Kept}, Stepped.{moved, Steps, restored}}
 use Rattle.schedule_search.specs.Sought.{seeking, branch, choice, foundOf, written, Sought, sought, under}
 use Rattle.schedule_search.proofs.Seeking.{handed, none-here}
 

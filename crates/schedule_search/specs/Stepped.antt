@@ -1,12 +1,8 @@
 -- A step of the search, and back.
-use mathlib.Core.Path.{_≡_}
-use mathlib.Core.Bool.{not}
+use mathlib.Core.{Path._≡_, Bool.not}
 use Prim.Native.Nat.{ℕ}
 use lib.ListN.{set}
-use Rattle.model.specs.Tables.{Queue, taskAt, recordAt}
-use Rattle.model.specs.Places.{row}
-use Rattle.model.specs.Ends.{isMoved}
-use Rattle.model.specs.Calls.{Done, back}
+use Rattle.model.specs.{Tables.{Queue, taskAt, recordAt}, Places.row, Ends.isMoved, Calls.{Done, back}}
 use Rattle.engine.specs.StepAdmitted.{stepAdmitted}
 use Rattle.rows.specs.Rows.{recordOf}
 use Rattle.schedule_model.specs.Undo.{saved, putBack}

@@ -1,18 +1,15 @@
 -- What one operation leaves, and a list of them one by one.
 use Prim.Native.Nat.{ℕ, suc, _+_, _*_, _-_, _<_, _%_, _^_}
-use mathlib.Core.Path.{_≡_, sym, ap, _∙_}
-use mathlib.Core.List.{List, _∷_}
+use mathlib.Core.{Path.{_≡_, sym, ap, _∙_}, List.{List, _∷_}}
 use native.Mathlib.{Numerals.add-one, Omega.arith}
 use borrow.Author.Tests.{eq-eqb, ne-eqb}
 use lib.Seq.{sets}
-use Rattle.model.specs.declared.Op.the-variants.{Push, Pop, PushPooled, Step}
-use Rattle.model.specs.Calls.{act}
+use Rattle.model.specs.{declared.Op.the-variants.{Push, Pop, PushPooled, Step}, Calls.act}
 use Rattle.model.specs.History.{Request, run, final}
 use Rattle.capi.specs.Replies.{Replied, replied}
-use Rattle.serve.specs.declared.request.Request.{Request as RequestRow}
+use Rattle.serve.specs.{declared.request.Request.Request as RequestRow, Serving.{State, uppersAfter, served}}
 use Rattle.serve.specs.Requests.{opOf, requestAt, requestsFrom, replyWords, repliesOf}
 use Rattle.rows.specs.Rows.{writesRow}
-use Rattle.serve.specs.Serving.{State, uppersAfter, served}
 
 -- An operation and then the rest.
 served-more : (n : ℕ) (s : State) (o : Request) (os : List Request) (d : Replied) (replies : List ℕ)

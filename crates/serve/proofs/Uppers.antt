@@ -1,24 +1,16 @@
 -- After an opening the upper halves of the tasks' labels are zero, and stay so.
 use Prim.Native.Nat.{ℕ, zero, suc, _<_}
-use mathlib.Core.Path.{_≡_, refl, ap, _∙_}
-use mathlib.Core.Bool.{true, false}
-use mathlib.Core.List.{List, [], _∷_, _++_}
+use mathlib.Core.{Path.{_≡_, refl, ap, _∙_}, Bool.{true, false}, List.{List, [], _∷_, _++_}}
 use native.Mathlib.Omega.{arith}
-use lib.Dec.{eqb}
-use lib.ListN.{replicate, drop, set}
+use lib.{Dec.eqb, ListN.{replicate, drop, set}}
 use borrow.Author.Tests.{eqb-true}
-use Rattle.model.specs.declared.{Op.Op, Outcome.Outcome, Record.Record}
-use Rattle.model.specs.declared.Op.the-variants.{Push, Pop, PushPooled, Step}
-use Rattle.model.specs.declared.Outcome.the-variants.{Refused, Moved}
-use Rattle.model.specs.Tables.{Tables, Queue, recordAt}
+use Rattle.model.specs.{declared.{Op.{Op, the-variants.{Push, Pop, PushPooled, Step}}, Record.Record}, Lists.zeroed}
+use Rattle.model.specs.{declared.Outcome.{Outcome, the-variants.{Refused, Moved}}, Tables.{Tables, Queue, recordAt}}
 use Rattle.model.specs.Refusals.{among, pushRefusal, pushPooledRefusal, popRefusal, stepRefusal}
 use Rattle.model.specs.Calls.{Acted, decide, pushStart, pushPooledStart, popStart, step, actOn, act}
-use Rattle.model.specs.Ends.{isMoved, endsCall}
-use Rattle.model.specs.History.{Request, run}
-use Rattle.model.proofs.tests.Truth.{split, not-both}
-use Rattle.model.proofs.laws.Sizes.{act-tasks}
+use Rattle.model.specs.{Ends.{isMoved, endsCall}, History.{Request, run}}
+use Rattle.model.proofs.{tests.Truth.{split, not-both}, laws.Sizes.act-tasks}
 use Rattle.model.proofs.bridge.Accepted.{push-accepted, push-pooled-accepted, pop-accepted, step-accepted}
-use Rattle.model.specs.Lists.{zeroed}
 use Rattle.rows.specs.Rows.{writesRow}
 use Rattle.serve.specs.Serving.{uppersAfter}
 

@@ -1,21 +1,13 @@
 -- A label noted by the walk, and the walk's length.
-use mathlib.Core.Bool.{Bool, true, false, cond}
-use mathlib.Core.List.{List, [], _∷_}
-use mathlib.Core.Path.{_≡_, ap, _∙_}
+use mathlib.Core.{Bool.{Bool, true, false, cond}, List.{List, [], _∷_}, Path.{_≡_, ap, _∙_}}
 use Prim.Native.Nat.{ℕ, zero, suc, _+_, _≤_}
-use native.Mathlib.Nat.{zero-add}
-use native.Mathlib.Omega.{arith}
-use lib.Dec.{eqb, leb}
-use lib.ListN.{length, getD, set}
+use native.Mathlib.{Nat.zero-add, Omega.arith}
+use lib.{Dec.{eqb, leb}, ListN.{length, getD, set}}
 use borrow.Author.Tests.{leb-true, ne-eqb}
 use Rattle.word.specs.Link.{linkOf}
-use Rattle.model.specs.declared.Entry.{Entry}
-use Rattle.model.specs.Sound.{from1, linkSound}
-use Rattle.model.specs.Walk.{Walk, entries, broken, andThen, along}
+use Rattle.model.specs.{declared.Entry.Entry, Sound.{from1, linkSound}, Walk.{Walk, entries, broken, andThen, along}}
 use Rattle.model.proofs.tests.Truth.{and-true, split}
-use Rattle.walk.specs.declared.Way.{Way}
-use Rattle.walk.specs.Ways.{noneOn, ahead}
-use Rattle.walk.proofs.Along.{nowhere}
+use Rattle.walk.{specs.{declared.Way.Way, Ways.{noneOn, ahead}}, proofs.Along.nowhere}
 use Rattle.sheet.specs.Extents.{Extents, Noting, placeOf, lower, higher, noted, nextAt, gathered, extents, told}
 
 -- A label noted at its place.

@@ -1,36 +1,20 @@
 -- The call's steps, one after the other, make up its meaning.
-use mathlib.Core.Bool.{Bool, true, false, not, _&&_, cond}
-use mathlib.Core.List.{List, []}
-use mathlib.Core.Path.{_≡_, refl, sym, ap, subst, _∙_}
+use mathlib.Core.{Bool.{Bool, true, false, not, _&&_, cond}, List.{List, []}, Path.{_≡_, refl, sym, ap, subst, _∙_}}
 use Prim.Native.Nat.{ℕ, _≤_}
 use native.Mathlib.Omega.{arith}
-use lib.Dec.{eqb, leb}
-use lib.ListN.{length}
+use lib.{Dec.{eqb, leb}, ListN.length}
 use borrow.Author.Tests.{leb-true}
-use Rattle.model.specs.declared.Control.{Control}
-use Rattle.model.specs.Tables.{Tables}
-use Rattle.model.specs.Sound.{controlTests, controlSound, from1, rowsFit}
+use Rattle.model.specs.{declared.Control.Control, Tables.Tables, Sound.{controlTests, controlSound, from1, rowsFit}}
 use Rattle.model.specs.Walk.{Walk, entries, broken, walkFrom, contents, isBroken, met}
-use Rattle.model.proofs.tests.Truth.{split, and-true}
-use Rattle.model.proofs.tests.Rules.{tests}
-use Rattle.sheet_model.specs.declared.SheetReply.{SheetReply}
-use Rattle.sheet_model.specs.Sheet.{Sheet, malformed}
-use Rattle.sheet_model.specs.Words.{linked}
-use Rattle.sheet.specs.Squares.{Row, byteRow, crossed}
-use Rattle.walk.specs.declared.Way.{Way}
-use Rattle.walk.specs.Ways.{wayOf, noneOn, linksOn, ahead}
-use Rattle.walk.specs.Over.{Made, made, lost}
+use Rattle.model.proofs.tests.{Truth.{split, and-true}, Rules.tests}
+use Rattle.sheet_model.specs.{declared.SheetReply.SheetReply, Sheet.{Sheet, malformed}, Words.linked}
+use Rattle.sheet_model.{specs.Verdict.{refused, verdict, judge}, proofs.Formed.{Formed, formed}}
+use Rattle.sheet.specs.{Squares.{Row, byteRow, crossed}, Extents.{Extents, gathered, extents, told}}
+use Rattle.sheet.specs.{Refusals.unfit, Search.inRows}
+use Rattle.walk.specs.{declared.Way.Way, Ways.{wayOf, noneOn, linksOn, ahead}, Over.{Made, made, lost}}
 use Rattle.walk.proofs.Along.{nowhere, nothing, waits, off}
-use Rattle.sheet.specs.Extents.{Extents, gathered, extents, told}
-use Rattle.sheet_model.specs.Verdict.{refused, verdict, judge}
-use Rattle.sheet.specs.Refusals.{unfit}
-use Rattle.sheet.specs.Search.{inRows}
-use Rattle.sheet_model.proofs.Formed.{Formed, formed}
-use Rattle.sheet.proofs.Broken.{found-verdict}
-use Rattle.sheet.proofs.Rounds.{Shows, marks}
-use Rattle.sheet.proofs.ByteRows.{bytes, bytes-show}
+use Rattle.sheet.proofs.{Broken.found-verdict, Rounds.{Shows, marks}, ByteRows.{bytes, bytes-show}, Noted.unseen}
 use Rattle.sheet.proofs.Gather.{Short, along-short}
-use Rattle.sheet.proofs.Noted.{unseen}
 
 pub slots-few : (c : Control) → controlSound c ≡ true → c .slots ≤ 1023
 unfolding controlSound

@@ -1,14 +1,9 @@
 -- Where each listed label waits: the lowest and the highest of its positions, as one walk finds them.
-use mathlib.Core.Bool.{Bool, true, false, cond}
-use mathlib.Core.List.{List, [], _∷_}
+use mathlib.Core.{Bool.{Bool, true, false, cond}, List.{List, [], _∷_}}
 use Prim.Native.Nat.{ℕ, suc, _+_, _-_}
-use lib.Dec.{ltb, eqb}
-use lib.ListN.{getD, set}
-use Rattle.model.specs.declared.Entry.{Entry}
-use Rattle.model.specs.Walk.{Walk, entries}
-use Rattle.walk.specs.declared.Way.{Way}
-use Rattle.walk.specs.Ways.{noneOn, ahead}
-use Rattle.walk.specs.Over.{Made, made, lost, over}
+use lib.{Dec.{ltb, eqb}, ListN.{getD, set}}
+use Rattle.model.specs.{declared.Entry.Entry, Walk.{Walk, entries}}
+use Rattle.walk.specs.{declared.Way.Way, Ways.{noneOn, ahead}, Over.{Made, made, lost, over}}
 
 -- Each listed label's lowest and highest position, 1 to 1,023, and 1,024 and 0 where it doesn't wait. Positions rise to the right, and only their order
 -- counts: a walk from the right calls the last label 1,023, however many wait.

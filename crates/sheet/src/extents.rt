@@ -2,8 +2,7 @@
 use crate::form::place_from;
 use model::Control;
 use walk::Way;
-ghost use mathlib.Core.Path.{_≡_};
-ghost use mathlib.Core.Bool.{true};
+ghost use mathlib.Core.{Path._≡_, Bool.true};
 ghost use Prim.Native.Nat.{_≤_};
 ghost use lib.ListN.{getD, set};
 ghost use Rattle.model.specs.Sound.{from1};

@@ -1,22 +1,17 @@
 -- The test of a pair is what the document calls broken, and the verdict is kept or the first such pair.
-use mathlib.Core.Bool.{Bool, true, false, _&&_, cond}
-use mathlib.Core.List.{List, [], _∷_, _++_, map}
-use mathlib.Core.Logic.{_⊎_, inl, inr}
+use mathlib.Core.{Bool.{Bool, true, false, _&&_, cond}, List.{List, [], _∷_, _++_, map}, Logic.{_⊎_, inl, inr}}
 use mathlib.Core.Path.{_≡_, ap, refl, sym, subst}
 use Prim.Native.Nat.{ℕ, zero, suc, _+_, _≤_, _<_}
 use native.Mathlib.Omega.{arith}
 use lib.{Dec.eqb, ListN.length}
 use borrow.Author.Tests.{eqb-true, eq-eqb}
-use Rattle.model.specs.declared.Entry.{Entry}
-use Rattle.model.specs.Walk.{CopyAt}
-use Rattle.model.proofs.tests.Truth.{and-of, and-true, by-test, decide-eq, not-both, or-cases, or-first, or-second, split}
-use Rattle.sheet_model.specs.declared.SheetReply.{SheetReply}
+use Rattle.model.{specs.{declared.Entry.Entry, Walk.CopyAt}, proofs.tests.Truth.split}
+use Rattle.model.proofs.tests.Truth.{and-of, and-true, by-test, decide-eq, not-both, or-cases, or-first, or-second}
+use Rattle.sheet_model.specs.{declared.SheetReply.SheetReply, Pairs.firstPair, Laws.VerdictRight}
 use Rattle.sheet_model.specs.Sheet.{Sheet, Chained, breaks, chained, labelAt, leftOf, malformed, waits}
 use Rattle.sheet_model.specs.Verdict.{Pair, brokenBy, firstBroken, kept, pairs, places, verdict}
-use Rattle.sheet_model.specs.Pairs.{Broken, Copy, Earlier, LeftCopy, NoneBroken, Rightly, crossed, itself, keeps, firstPair}
-use Rattle.sheet_model.specs.Laws.{VerdictRight}
-use Rattle.sheet_model.proofs.Formed.{formed}
-use Rattle.sheet_model.proofs.Chained.{chained-in, chained-of, chained-within}
+use Rattle.sheet_model.specs.Pairs.{Broken, Copy, Earlier, LeftCopy, NoneBroken, Rightly, crossed, itself, keeps}
+use Rattle.sheet_model.proofs.{Formed.formed, Chained.{chained-in, chained-of, chained-within}}
 
 -- One entry further left.
 further : (x : ℕ) (e : Entry) (l : List Entry) (i : ℕ) → CopyAt x l i → CopyAt x (e ∷ l) (suc i)

@@ -1,20 +1,11 @@
 -- What is promised of the sheets, beyond what each call answers. (Document 02, #111 and #112.)
-use mathlib.Core.Path.{_≡_}
-use mathlib.Core.Bool.{true, false, cond}
-use mathlib.Core.List.{List}
-use mathlib.Core.Logic.{_≢_}
+use mathlib.Core.{Path._≡_, Bool.{true, false, cond}, List.List, Logic._≢_}
 use Prim.Native.Nat.{ℕ, suc, _/_, _%_, _^_, _≤_, _<_}
-use lib.Dec.{leb}
-use lib.ListN.{length, getD}
-use Rattle.model.specs.declared.Entry.{Entry}
-use Rattle.model.specs.Tables.{Tables, Queue}
-use Rattle.model.specs.Standing.{Standing}
-use Rattle.model.specs.Walk.{contents, met}
+use lib.{Dec.leb, ListN.{length, getD}}
+use Rattle.model.specs.{declared.Entry.Entry, Tables.{Tables, Queue}, Standing.Standing, Walk.{contents, met}}
 use Rattle.model.specs.History.{AfterOpening, final, ledger, run}
-use Rattle.sheet_model.specs.declared.SheetReply.{SheetReply}
-use Rattle.sheet_model.specs.Sheet.{Sheet, Chained, malformed, chained}
-use Rattle.sheet_model.specs.Verdict.{kept, refused, verdict, sheet, sheetWords}
-use Rattle.sheet_model.specs.Pairs.{NoneBroken, Rightly}
+use Rattle.sheet_model.specs.{declared.SheetReply.SheetReply, Sheet.{Sheet, Chained, malformed, chained}}
+use Rattle.sheet_model.specs.{Verdict.{kept, refused, verdict, sheet, sheetWords}, Pairs.{NoneBroken, Rightly}}
 
 -- The test is passed exactly where place a is chained before place b.
 pub record ChainedWhere (s : Sheet) (a b : ℕ) : Type 0 where

@@ -1,27 +1,20 @@
 -- A call stays open until one of its steps answers: so a queue that is idle has answered the calls that it was stepped for.
-use mathlib.Core.Bool.{false, not, true}
-use mathlib.Core.Logic.{_≢_, _⊎_, inl, inr}
-use mathlib.Core.Path.{_≡_, _∙_, ap, refl, subst, sym}
+use mathlib.Core.{Bool.{false, not, true}, Logic.{_≢_, _⊎_, inl, inr}, Path.{_≡_, _∙_, ap, refl, subst, sym}}
 use Prim.Native.Nat.{ℕ, _<_}
 use native.Mathlib.Omega.{arith}
 use lib.{Dec.eqb, Seq.set-getD}
 use borrow.Author.Tests.{eqb-false, eqb-true, not-false}
-use Rattle.model.specs.declared.{Answer.Answer, Call.Call, Entry.Entry, Op.Op, Outcome.Outcome, Record.Record}
-use Rattle.model.specs.declared.Answer.the-variants.{Running}
-use Rattle.model.specs.declared.Op.the-variants.{Pop, Push, PushPooled, Step}
-use Rattle.model.specs.declared.Outcome.the-variants.{Moved, Refused}
+use Rattle.model.specs.declared.{Answer.{Answer, the-variants.Running}, Call.Call, Entry.Entry, Record.Record}
+use Rattle.model.specs.{declared.Op.{Op, the-variants.{Pop, Push, PushPooled, Step}}, Ends.{answerEnds, isRunning}}
+use Rattle.model.specs.{declared.Outcome.{Outcome, the-variants.{Moved, Refused}}, History.{Event, Request, isEffect}}
 use Rattle.model.specs.Calls.{Acted, act, actOn, back, entryOf, finish, popStart, pushStart, pushPooledStart, step}
-use Rattle.model.specs.Ends.{answerEnds, isRunning}
-use Rattle.model.specs.History.{Event, Request, isEffect}
-use Rattle.model.specs.Places.{Move, move, wordFound}
+use Rattle.model.specs.{Places.{Move, move, wordFound}, Tables.{Queue, isPooled, recordAt, taskAt, unused}}
 use Rattle.model.specs.Progress.{Busy, stepping, tookEffectOrAnswered, tookEffectOrAnsweredBy}
 use Rattle.model.specs.Refusals.{among, popRefusal, pushRefusal, pushPooledRefusal, stepRefusal, stepRules}
 use Rattle.model.specs.Route.{answer, empty, noFreeSlot, onward, popped, pushed, route}
-use Rattle.model.specs.Tables.{Queue, isPooled, recordAt, taskAt, unused}
 use Rattle.model.proofs.bridge.Accepted.{pop-accepted, push-accepted, push-pooled-accepted, step-accepted}
 use Rattle.model.proofs.laws.{OneTouch.act-others, Onward.leads-on, Refusals.act-refused, Sizes.act-tasks}
-use Rattle.model.proofs.tests.{Rules.cleared, Truth.by-test, Truth.decide-eq, Truth.not-both, Truth.or-false}
-use Rattle.model.proofs.RunSteps.{tells-place}
+use Rattle.model.proofs.{tests.{Rules.cleared, Truth.{by-test, decide-eq, not-both, or-false}}, RunSteps.tells-place}
 use Rattle.shelf_model.specs.Changeovers.{eventOf}
 
 -- ---- a step that answers *running* leads to a place other than 0

@@ -1,29 +1,20 @@
 -- Starts, whole operations, lists of them and the walk: the queue cut to its lengths does as the queue.
-use mathlib.Core.Bool.{Bool, true, false, _&&_, cond, not}
-use mathlib.Core.List.{List, [], _∷_}
-use mathlib.Core.Path.{_≡_, _∙_, ap, ap₂, refl, sym}
+use mathlib.Core.{Bool.{Bool, true, false, _&&_, cond, not}, List.{List, [], _∷_}, Path.{_≡_, _∙_, ap, ap₂, refl, sym}}
 use Prim.Native.Nat.{ℕ, zero, suc, _≤_}
 use native.Mathlib.Omega.{arith}
-use lib.Dec.{eqb, ltb}
-use lib.ListN.{getD, set, take}
-use lib.Seq.{set-getD}
+use lib.{Dec.{eqb, ltb}, ListN.{getD, set, take}, Seq.set-getD}
 use borrow.Author.Tests.{ltb-true, not-false}
 use Rattle.word.specs.{Anchor.anchorOf, Link.linkOf}
-use Rattle.model.specs.declared.Answer.the-variants.{Running}
-use Rattle.model.specs.declared.{Op.Op, Call.Call, Record.Record, Asked.Asked, Control.Control}
-use Rattle.model.specs.declared.Op.the-variants.{Push, Pop, PushPooled, Step}
-use Rattle.model.specs.declared.Outcome.the-variants.{Moved, Refused}
+use Rattle.model.specs.declared.{Answer.the-variants.Running, Op.{Op, the-variants.{Push, Pop, PushPooled, Step}}}
+use Rattle.model.specs.declared.{Call.Call, Record.Record, Asked.Asked, Control.Control}
+use Rattle.model.specs.{declared.Outcome.the-variants.{Moved, Refused}, Sound.{controlSound, from1, linkSound}}
 use Rattle.model.specs.Tables.{Queue, Tables, asking, isPooled, started, taskAt, unused, withCall, withTaken}
-use Rattle.model.specs.Sound.{controlSound, from1, linkSound}
-use Rattle.model.specs.Refusals.{Lent, admissionRules, among, first, fits, namedPush, nothingAsked, pooledPush, popRefusal, pushRefusal, pushPooledRefusal}
-use Rattle.model.specs.Refusals.{rule, startRules, startRefusal, stepRefusal}
+use Rattle.model.specs.Refusals.{Lent, admissionRules, among, first, fits, namedPush, nothingAsked, pooledPush, rule}
+use Rattle.model.specs.Refusals.{popRefusal, pushRefusal, pushPooledRefusal, startRules, startRefusal, stepRefusal}
 use Rattle.model.specs.Calls.{Acted, Done, act, actOn, back, decide, popStart, pushStart, pushPooledStart, step}
 use Rattle.model.specs.Walk.{Walk, along, andThen, broken, contents, entries, walkFrom, whence}
-use Rattle.model.specs.History.{Event, Request, final, run}
-use Rattle.model.proofs.tests.{Rules.cleared, Truth.split}
-use Rattle.model.proofs.bridge.Facts.{from1-true}
-use Rattle.model.proofs.laws.Sizes.{act-tasks}
-use Rattle.model.specs.Sides.{far, isEmpty, near, opposite}
+use Rattle.model.specs.{History.{Event, Request, final, run}, Sides.{far, isEmpty, near, opposite}}
+use Rattle.model.proofs.{tests.{Rules.cleared, Truth.split}, bridge.Facts.from1-true, laws.Sizes.act-tasks}
 use Rattle.shelf_model.specs.Cut.{cut, cutTables}
 use Rattle.shelf_model.proofs.Lists.{enough-take, get-take, set-take}
 use Rattle.shelf_model.proofs.Cut.{columns, cutActed, decide-cut, fits-cut, mark-cut, marked-cut, step-cut}

@@ -1,17 +1,12 @@
 -- Which slots are taken, in use and marked: the same in queues that are alike within their lengths.
-use mathlib.Core.Bool.{Bool, true}
-use mathlib.Core.Path.{_≡_, _∙_, ap, subst, sym}
+use mathlib.Core.{Bool.{Bool, true}, Path.{_≡_, _∙_, ap, subst, sym}}
 use Prim.Native.Nat.{ℕ, _<_, _≤_}
-use Rattle.model.specs.declared.{Call.Call, Control.Control, Op.Op, Record.Record}
-use Rattle.model.specs.declared.Op.the-variants.{Step}
-use Rattle.model.specs.Tables.{Queue, marked, recordAt, taskAt}
-use Rattle.model.specs.Calls.{Done, act}
-use Rattle.model.specs.Walk.{contents}
-use Rattle.model.specs.History.{InUse, MarkedIn, NoFreeSlotIn, Taken, Waits, is-taken, pop-gives, pop-holds, popGives, popHolds, push-holds, pushHolds}
-use Rattle.model.specs.History.{waits}
+use Rattle.model.specs.{declared.{Call.Call, Control.Control, Op.{Op, the-variants.Step}, Record.Record}, Walk.contents}
+use Rattle.model.specs.{Tables.{Queue, marked, recordAt, taskAt}, Calls.{Done, act}}
+use Rattle.model.specs.History.{InUse, MarkedIn, NoFreeSlotIn, Taken, Waits, is-taken, pop-gives, pop-holds, popGives}
+use Rattle.model.specs.History.{popHolds, push-holds, pushHolds, waits}
 use Rattle.shelf_model.specs.Cut.{cut}
-use Rattle.shelf_model.proofs.{Cut.marked-cut, Stretches.task-cut}
-use Rattle.shelf_model.proofs.CutCalls.{act-cut, contents-cut}
+use Rattle.shelf_model.proofs.{Cut.marked-cut, Stretches.task-cut, CutCalls.{act-cut, contents-cut}}
 
 module _ (p q : Queue) (e : cut p ≡ cut q) where
   control : p .tables .control ≡ q .tables .control

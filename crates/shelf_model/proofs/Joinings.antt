@@ -1,25 +1,20 @@
 -- A joining is turns of its third, those that push the labels: so whatever holds after turns holds with joinings among them.
 -- A queue is filled only while it is idle, so a stretch with joinings in it, up to an answer, is one of turns.
-use mathlib.Core.Bool.{Bool, _&&_, cond, false, not, true}
-use mathlib.Core.List.{List, [], _∷_, _++_, append-assoc, append-nil, map}
-use mathlib.Core.Logic.{_≢_, _⊎_, inl, inr}
-use mathlib.Core.Path.{_≡_, _∙_, ap, ap₂, refl, subst, sym}
+use mathlib.Core.{Bool.{Bool, _&&_, cond, false, not, true}, List.{List, [], _∷_, _++_, append-assoc, append-nil, map}}
+use mathlib.Core.{Logic.{_≢_, _⊎_, inl, inr}, Path.{_≡_, _∙_, ap, ap₂, refl, subst, sym}}
 use Prim.Native.Nat.{ℕ, _≤_}
 use lib.Dec.{eqb}
 use borrow.Author.Tests.{eq-eqb, eqb-true, ne-eqb}
-use Rattle.model.specs.{Tables.Queue, Tables.isPooled, Calls.act}
-use Rattle.model.specs.History.{Event, Request, final, run}
+use Rattle.model.specs.{Tables.{Queue, isPooled}, Calls.act, History.{Event, Request, final, run}}
 use Rattle.model.specs.Progress.{Busy, steps, stretchLimit}
-use Rattle.model.proofs.laws.Sizes.{Sizes}
-use Rattle.model.proofs.tests.Truth.{and-true, by-test, decide-eq, not-both, split}
+use Rattle.model.proofs.{laws.Sizes.Sizes, tests.Truth.{and-true, by-test, decide-eq, not-both, split}}
 use Rattle.join_model.specs.Join.{join, joinRefusal, lanes, pushes}
-use Rattle.shelf_model.specs.Changeovers.{Past, Turn, World, after, asks, breaks, continues, does, eventOf, eventsOf}
-use Rattle.shelf_model.specs.Changeovers.{station, turned, unbroken, withEvent}
-use Rattle.shelf_model.specs.Promises.{Kept}
-use Rattle.shelf_model.specs.Joinings.{Deed, JoinsKept, afterAll, afterOne, continuous, eventsIn, goesOn, joinedIn, joins, replaces}
-use Rattle.shelf_model.specs.Joinings.{turns, withDeed}
-use Rattle.shelf_model.proofs.Changeovers.{makings}
-use Rattle.shelf_model.proofs.Ongoing.{SomeBusy, Stepless, deed-less, deed-made, deed-more, deed-sizes, deed-steps, filled-idle, progressed, turn-busy}
+use Rattle.shelf_model.specs.Changeovers.{Past, Turn, World, after, asks, breaks, continues, does, eventOf}
+use Rattle.shelf_model.specs.{Changeovers.{eventsOf, station, turned, unbroken, withEvent}, Promises.Kept}
+use Rattle.shelf_model.specs.Joinings.{Deed, JoinsKept, afterAll, afterOne, continuous, eventsIn, goesOn, joins}
+use Rattle.shelf_model.specs.Joinings.{joinedIn, replaces, turns, withDeed}
+use Rattle.shelf_model.proofs.{Changeovers.makings, Ongoing.{deed-steps, filled-idle, progressed, turn-busy}}
+use Rattle.shelf_model.proofs.Ongoing.{SomeBusy, Stepless, deed-less, deed-made, deed-more, deed-sizes}
 use Rattle.shelf_model.proofs.Promises.{promises}
 
 -- ---- queue k is asked for a list, and nothing else happens

@@ -1,11 +1,8 @@
 -- Lists cut to a length: reads below it, stores, lengths.
-use mathlib.Core.Bool.{Bool, true, false}
-use mathlib.Core.List.{List, [], _∷_}
-use mathlib.Core.Path.{_≡_, ap, refl, sym}
+use mathlib.Core.{Bool.{Bool, true, false}, List.{List, [], _∷_}, Path.{_≡_, ap, refl, sym}}
 use Prim.Native.Nat.{ℕ, zero, suc, _<_}
 use native.Mathlib.Omega.{arith}
-use lib.Dec.{leb, ltb}
-use lib.ListN.{getD, length, length-take, set, take}
+use lib.{Dec.{leb, ltb}, ListN.{getD, length, length-take, set, take}}
 use borrow.Author.Tests.{le-leb, leb-true, lt-ltb, ltb-true}
 
 pub same-test : (a b : Bool) → (a ≡ true → b ≡ true) → (b ≡ true → a ≡ true) → a ≡ b

@@ -1,26 +1,20 @@
 -- What goes on in queue i across whatever ends no stretch of it: it is made, its sizes stay, and a busy task stays busy until one answers.
-use mathlib.Core.Bool.{Bool, _&&_, cond, false, not, true}
-use mathlib.Core.List.{List, [], _∷_}
-use mathlib.Core.Logic.{_⊎_, inl, inr}
+use mathlib.Core.{Bool.{Bool, _&&_, cond, false, not, true}, List.{List, [], _∷_}, Logic.{_⊎_, inl, inr}}
 use mathlib.Core.Path.{_≡_, _∙_, ap, refl, subst, sym}
 use Prim.Native.Nat.{ℕ}
 use native.Mathlib.Omega.{arith}
 use lib.Dec.{eqb}
 use borrow.Author.Tests.{eq-eqb, eqb-true, not-false, not-true}
-use Rattle.model.specs.{Calls.act, Refusals.openRefusal, Report.busy, Tables.Queue}
-use Rattle.model.specs.History.{Event, run}
+use Rattle.model.specs.{Calls.act, Refusals.openRefusal, Report.busy, Tables.Queue, History.{Event, run}}
 use Rattle.model.specs.Progress.{Busy, any, stepping, steps, tookEffectOrAnswered}
-use Rattle.model.proofs.laws.Sizes.{act-sizes, sizes}
-use Rattle.model.proofs.tests.Rules.{cleared, tests}
+use Rattle.model.proofs.{laws.Sizes.{act-sizes, sizes}, tests.Rules.{cleared, tests}}
 use Rattle.model.proofs.tests.Truth.{and-true, by-test, either, not-both, or-false, or-second, split}
-use Rattle.join_model.specs.Join.{anyLate, atRest, fresh, freshTests, join, joinRefusal, joinRules, lanes, outcomes, pushes}
-use Rattle.join_model.proofs.Fresh.{none-pass}
-use Rattle.shelf_model.specs.Changeovers.{Action, Past, Station, Turn, World, asks, breaks, does, eventOf}
-use Rattle.shelf_model.specs.Changeovers.{opens, returns, saves, station, turned, withEvent}
-use Rattle.shelf_model.specs.Shelves.{returnRefusal}
+use Rattle.join_model.specs.Join.{anyLate, atRest, fresh, freshTests, join, joinRefusal, joinRules, lanes, outcomes}
+use Rattle.join_model.{specs.Join.pushes, proofs.Fresh.none-pass}
+use Rattle.shelf_model.specs.Changeovers.{Action, Past, Station, Turn, World, asks, breaks, does, eventOf, opens}
+use Rattle.shelf_model.specs.{Changeovers.{returns, saves, station, turned, withEvent}, Shelves.returnRefusal}
 use Rattle.shelf_model.specs.Joinings.{Deed, afterOne, joinedIn, joins, replaces, turns, withDeed}
-use Rattle.shelf_model.proofs.Busy.{act-busy, steps-busy}
-use Rattle.shelf_model.proofs.Pasts.{final-sizes}
+use Rattle.shelf_model.proofs.{Busy.{act-busy, steps-busy}, Pasts.final-sizes}
 use Rattle.shelf_model.proofs.Stretches.{open-refused, return-refused, turn}
 
 abbrev SameSizes : Queue → Queue → Type 0

@@ -1,28 +1,17 @@
 -- Tasks stepped alone, and stretches of starts and steps: the queue cut to its lengths does as the queue, and savings change nothing.
-use mathlib.Core.Bool.{Bool, true, false, cond, not}
-use mathlib.Core.List.{List, [], _∷_}
-use mathlib.Core.Path.{_≡_, _∙_, ap, refl, subst, sym}
+use mathlib.Core.{Bool.{Bool, true, false, cond, not}, List.{List, [], _∷_}, Path.{_≡_, _∙_, ap, refl, subst, sym}}
 use Prim.Native.Nat.{ℕ, zero, suc, _<_}
 use lib.Dec.{eqb}
 use borrow.Author.Tests.{eq-eqb, eqb-true, not-true}
-use Rattle.model.specs.declared.Answer.the-variants.{Running}
-use Rattle.model.specs.declared.Op.the-variants.{Step}
-use Rattle.model.specs.declared.Outcome.the-variants.{Moved}
-use Rattle.model.specs.declared.Record.{Record}
-use Rattle.model.specs.Tables.{Queue, taskAt, unused}
-use Rattle.model.specs.{Refusals.openRefusal, Progress.AnsweredWithin}
-use Rattle.model.specs.Calls.{Done, act, openAs}
-use Rattle.model.specs.Ends.{isMoved, isRunning}
-use Rattle.model.specs.History.{Event, Request, run}
-use Rattle.model.specs.Solo.{SoloDone, lastStep, oneMore, resting, soloRun, soloSteps}
-use Rattle.model.proofs.tests.Truth.{and-true, split}
-use Rattle.model.proofs.laws.Sizes.{act-tasks}
-use Rattle.shelf_model.specs.Cut.{cut}
-use Rattle.shelf_model.specs.Shelves.{Shelves, returnRefusal, returned}
+use Rattle.model.specs.declared.{Answer.the-variants.Running, Op.the-variants.Step, Outcome.the-variants.Moved}
+use Rattle.model.specs.{declared.Record.Record, Tables.{Queue, taskAt, unused}, Refusals.openRefusal}
+use Rattle.model.specs.{Progress.AnsweredWithin, Calls.{Done, act, openAs}, Ends.{isMoved, isRunning}}
+use Rattle.model.specs.{History.{Event, Request, run}, Solo.{SoloDone, lastStep, oneMore, resting, soloRun, soloSteps}}
+use Rattle.model.proofs.{tests.Truth.{and-true, split}, laws.Sizes.act-tasks}
+use Rattle.shelf_model.specs.{Cut.cut, Shelves.{Shelves, returnRefusal, returned}}
 use Rattle.shelf_model.specs.Changeovers.{Action, Turn, World, asks, breaks, does, opens, returns, saves, eventOf}
 use Rattle.shelf_model.specs.Changeovers.{eventsOf, station, turned, unbroken}
-use Rattle.shelf_model.proofs.Lists.{get-take}
-use Rattle.shelf_model.proofs.CutCalls.{act-cut, cutDone}
+use Rattle.shelf_model.proofs.{Lists.get-take, CutCalls.{act-cut, cutDone}}
 
 pub task-cut : (q : Queue) (t : ℕ) → t < q .tables .control .tasks → taskAt (cut q) t ≡ taskAt q t
 task-cut q t h = get-take (q .tables .control .tasks) (q .records) t unused h

@@ -1,13 +1,9 @@
 -- Histories with openings, savings and returns. (Document 02, #109.)
-use mathlib.Core.{Path._≡_, Logic._≢_}
-use mathlib.Core.Bool.{Bool, true, false, _&&_, cond, not}
-use mathlib.Core.List.{List, [], _∷_, _++_}
+use mathlib.Core.{Path._≡_, Logic._≢_, Bool.{Bool, true, false, _&&_, cond, not}, List.{List, [], _∷_, _++_}}
 use Prim.Native.Nat.{ℕ, _≤_}
 use lib.{Dec.eqb, ListN.getD}
-use Rattle.model.specs.declared.Opening.the-variants.{Opened}
-use Rattle.model.specs.{Tables.Queue, Sound.controlSound, Refusals.openRefusal}
-use Rattle.model.specs.Calls.{openAs, act}
-use Rattle.model.specs.History.{Request, Event, run, final}
+use Rattle.model.specs.{declared.Opening.the-variants.Opened, Tables.Queue, Sound.controlSound, Refusals.openRefusal}
+use Rattle.model.specs.{Calls.{openAs, act}, History.{Request, Event, run, final}}
 use Rattle.shelf_model.specs.Cut.{cut}
 use Rattle.shelf_model.specs.Shelves.{Shelves, shelfAt, unfilled, saveRefusal, saved, returnRefusal, returned}
 

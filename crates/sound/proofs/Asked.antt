@@ -1,16 +1,12 @@
 -- What a step is asked of control and lengths, one test after the other: the first rule that applies.
-use mathlib.Core.Path.{_≡_, refl, sym, _∙_}
-use mathlib.Core.Bool.{Bool, true, false, _&&_, _||_, not, cond, and-assoc, and-true, and-false}
-use mathlib.Core.Logic.{_≢_}
-use Prim.Native.Nat.{ℕ, _/_}
+use mathlib.Core.{Path.{_≡_, refl, sym, _∙_}, Bool.{Bool, true, false, _&&_, _||_, not, cond, and-false}, Logic._≢_}
+use Prim.Native.Nat.{ℕ}
 use native.Mathlib.Omega.{arith}
 use lib.Dec.{leb, ltb, eqb}
 use Rattle.word.specs.Anchor.{anchorOf}
-use Rattle.model.specs.declared.Control.{Control}
-use Rattle.model.specs.Sound.{from1, anchorSound, controlSound}
+use Rattle.model.specs.{declared.Control.Control, Sound.{from1, anchorSound, controlSound}}
 use Rattle.model.specs.Refusals.{first, tableRules}
-use Rattle.sound.specs.declared.Lengths.{Lengths}
-use Rattle.sound.specs.Lengths.{lengthsFit, nextRules}
+use Rattle.sound.specs.{declared.Lengths.Lengths, Lengths.{lengthsFit, nextRules}}
 
 -- Control's tests up to the first that fails; where the first three hold, the word for pooled decides.
 module _ (c : Control) (fit : Bool) where

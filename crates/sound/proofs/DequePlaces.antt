@@ -5,13 +5,10 @@ use Prim.Native.Nat.{ℕ, _<_, _≤_}
 use native.Mathlib.Omega.{arith}
 use lib.Dec.{leb, eqb}
 use borrow.Author.Tests.{eq-eqb, ne-eqb, eqb-true, eqb-false, le-leb, lt-leb}
-use Rattle.word.specs.declared.Anchor.{Anchor}
-use Rattle.word.specs.Anchor.{anchorOf}
-use Rattle.model.specs.declared.Call.{Call}
-use Rattle.model.specs.Sound.{from1, linkSound, anchorSound, recordSound}
+use Rattle.word.specs.{declared.Anchor.Anchor, Anchor.anchorOf}
+use Rattle.model.specs.{declared.Call.Call, Sound.{from1, linkSound, anchorSound, recordSound}}
 use Rattle.sound.specs.Records.{readSound, dequeCall, dequeSeen, dequeSound}
-use Rattle.sound.proofs.Parts.{callTestsPass, readTestsPass, busy-sound}
-use Rattle.sound.proofs.Places.{at-push, at-other}
+use Rattle.sound.proofs.{Parts.{callTestsPass, readTestsPass, busy-sound}, Places.{at-push, at-other}}
 use Rattle.sound.proofs.Ends.{equal, apart}
 
 -- Finishing is 0, or 1 while helping.

@@ -1,11 +1,8 @@
 -- The tests of a busy record in two parts: what its place asks of it, and whether what it has read is sound.
-use mathlib.Core.Path.{_≡_, sym}
-use mathlib.Core.Bool.{Bool, true, false, _&&_, _||_, and-assoc}
+use mathlib.Core.{Path.{_≡_, sym}, Bool.{Bool, true, false, _&&_, _||_, and-assoc}}
 use Prim.Native.Nat.{ℕ}
 use lib.Dec.{eqb}
-use Rattle.model.specs.declared.Call.{Call}
-use Rattle.model.specs.Sound.{callTests, readTests, recordSound}
-use Rattle.model.specs.Lists.{every}
+use Rattle.model.specs.{declared.Call.Call, Sound.{callTests, readTests, recordSound}, Lists.every}
 
 unfoldable pub callTestsPass : Bool → ℕ → Call → Bool
 callTestsPass pooled slots r = every (callTests pooled slots r)

@@ -6,9 +6,7 @@ use native.Mathlib.Omega.{arith}
 use lib.Dec.{leb, eqb}
 use borrow.Author.Tests.{eq-eqb, ne-eqb, eqb-true, eqb-false, le-leb, lt-leb}
 use Rattle.word.specs.Link.{linkOf}
-use Rattle.model.specs.declared.Call.{Call}
-use Rattle.model.specs.Sound.{from1}
-use Rattle.model.specs.Kinds.{helping}
+use Rattle.model.specs.{declared.Call.Call, Sound.from1, Kinds.helping}
 use Rattle.sound.proofs.Parts.{callTestsPass}
 
 -- 0 is at most 1, and so is 1.

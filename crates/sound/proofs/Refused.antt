@@ -1,11 +1,8 @@
 -- Why a record is refused before its place is looked at, or not.
-use mathlib.Core.Path.{_≡_}
-use mathlib.Core.Bool.{Bool, true, false}
+use mathlib.Core.{Path._≡_, Bool.{Bool, true, false}}
 use Prim.Native.Nat.{ℕ}
 use borrow.Author.Tests.{eq-eqb, ne-eqb}
-use Rattle.model.specs.declared.Call.{Call}
-use Rattle.model.specs.Sound.{recordSound}
-use Rattle.model.specs.Refusals.{recordRefusal}
+use Rattle.model.specs.{declared.Call.Call, Sound.recordSound, Refusals.recordRefusal}
 use Rattle.sound.proofs.Parts.{idle-sound}
 
 module _ (pooled : Bool) (slots : ℕ) (r : Call) where

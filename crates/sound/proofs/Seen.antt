@@ -1,12 +1,10 @@
 -- The tests of an Anchor word that was read, one by one: the left end no slot, no status, then from place 5 on, equal ends, different ones.
-use mathlib.Core.Path.{_≡_, refl, sym, ap}
-use mathlib.Core.Bool.{Bool, true, false, _&&_, not, cond, and-true, and-false}
+use mathlib.Core.{Path.{_≡_, refl, sym, ap}, Bool.{Bool, true, false, _&&_, not, cond, and-true, and-false}}
 use Prim.Native.Nat.{ℕ, _+_, _*_, _<_, _≤_, _%_, _/_}
 use native.Mathlib.Omega.{arith}
 use lib.Dec.{leb, eqb}
 use borrow.Author.Tests.{eq-eqb, ne-eqb, eqb-true, eqb-false, le-leb, lt-leb}
-use Rattle.word.specs.declared.Anchor.{Anchor}
-use Rattle.word.specs.Anchor.{anchorOf}
+use Rattle.word.specs.{declared.Anchor.Anchor, Anchor.anchorOf}
 use Rattle.model.specs.Sound.{from1}
 use Rattle.sound.specs.Records.{dequeSeen}
 

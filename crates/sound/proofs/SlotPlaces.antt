@@ -5,14 +5,10 @@ use Prim.Native.Nat.{ℕ, _<_, _≤_}
 use native.Mathlib.Omega.{arith}
 use lib.Dec.{leb, eqb}
 use borrow.Author.Tests.{eq-eqb, ne-eqb, eqb-true, eqb-false, le-leb, lt-leb, leb-true, leb-false}
-use Rattle.word.specs.Anchor.{anchorOf}
-use Rattle.word.specs.Link.{linkOf}
-use Rattle.model.specs.declared.Call.{Call}
-use Rattle.model.specs.Sound.{from1, linkSound, anchorSound, recordSound}
-use Rattle.model.specs.Kinds.{helping}
+use Rattle.word.specs.{Anchor.anchorOf, Link.linkOf}
+use Rattle.model.specs.{declared.Call.Call, Sound.{from1, linkSound, anchorSound, recordSound}, Kinds.helping}
 use Rattle.sound.specs.Records.{readSound, slotCall, slotSound}
-use Rattle.sound.proofs.Parts.{callTestsPass, readTestsPass, busy-sound}
-use Rattle.sound.proofs.DequePlaces.{zero-low}
+use Rattle.sound.proofs.{Parts.{callTestsPass, readTestsPass, busy-sound}, DequePlaces.zero-low}
 use Rattle.sound.proofs.Places.{at-draw, at-give, at-push, at-other, beyond}
 
 -- Tests in another order.

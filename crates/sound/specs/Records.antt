@@ -3,12 +3,8 @@
 use mathlib.Core.Bool.{Bool, _&&_, _||_, not, cond}
 use Prim.Native.Nat.{ℕ}
 use lib.Dec.{leb, eqb}
-use Rattle.word.specs.declared.Anchor.{Anchor}
-use Rattle.word.specs.Anchor.{anchorOf}
-use Rattle.word.specs.Link.{linkOf}
-use Rattle.model.specs.declared.Call.{Call}
-use Rattle.model.specs.Sound.{from1, linkSound, anchorSound}
-use Rattle.model.specs.Kinds.{isPush, isPop}
+use Rattle.word.specs.{declared.Anchor.Anchor, Anchor.anchorOf, Link.linkOf}
+use Rattle.model.specs.{declared.Call.Call, Sound.{from1, linkSound, anchorSound}, Kinds.{isPush, isPop}}
 
 -- The tests of a record at 1 to 10 of its kind, own slot and finishing, and of the Anchor word that it has read.
 unfoldable pub dequeCall : ℕ → Call → Bool

@@ -1,20 +1,15 @@
 -- Every label accounted for, after any list from any accepted opening.
-use mathlib.Core.Bool.{true}
-use mathlib.Core.List.{List, [], _∷_, map}
-use mathlib.Core.Path.{_≡_, ap, subst, sym}
+use mathlib.Core.{Bool.true, List.{List, [], _∷_, map}, Path.{_≡_, ap, subst, sym}}
 use Prim.Native.Nat.{ℕ, _+_, _<_}
 use native.Mathlib.Omega.{arith}
-use Rattle.model.specs.declared.Entry.{Entry}
-use Rattle.model.specs.{Tables.Queue, Lists.All}
-use Rattle.model.specs.Walk.{contents, entries, met}
-use Rattle.model.specs.Calls.{openAs, opened}
-use Rattle.model.specs.History.{AfterOpening, Event, LedgerCall, Ending, Lawful, Request, answered, final, isOpen, ledger, pending, run}
-use Rattle.model.proofs.ledger.EveryOperation.{run-good}
-use Rattle.model.proofs.ledger.Opened.{nobody, open-good, some-slots}
-use Rattle.model.proofs.unsound.Runs.{run-safe}
-use Rattle.model.proofs.{Linearizable.linearizable, Never34.open-safe, Openings.after-opening}
-use Rattle.stock_model.specs.Accounts.{AccountedIn, AddedUp, EveryLabel, Stands, StockTaking, answeredBy, answeredLabels, each, heldBy, heldLabels}
-use Rattle.stock_model.specs.Accounts.{pushedLabels, poppedBy, poppedLabels, waitingLabels}
+use Rattle.model.specs.{declared.Entry.Entry, Tables.Queue, Lists.All, Walk.{contents, entries, met}}
+use Rattle.model.specs.{Calls.{openAs, opened}, History.{ledger, pending}}
+use Rattle.model.specs.History.{AfterOpening, Event, LedgerCall, Ending, Lawful, Request, answered, final, isOpen, run}
+use Rattle.model.proofs.{ledger.{EveryOperation.run-good, Opened.{nobody, open-good, some-slots}}, Never34.open-safe}
+use Rattle.model.proofs.{unsound.Runs.run-safe, Linearizable.linearizable, Openings.after-opening}
+use Rattle.stock_model.specs.Accounts.{AccountedIn, AddedUp, EveryLabel, Stands, StockTaking, answeredBy, each}
+use Rattle.stock_model.specs.Accounts.{answeredLabels, heldBy, heldLabels, pushedLabels, poppedBy, poppedLabels}
+use Rattle.stock_model.specs.Accounts.{waitingLabels}
 use Rattle.stock_model.proofs.Balance.{all-fit, balanced, only, weigh, weigh-all, weigh-more, weigh-only}
 use Rattle.stock_model.proofs.Held.{every-known, every-stands}
 

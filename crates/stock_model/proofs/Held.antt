@@ -1,29 +1,19 @@
 -- A call that hasn't answered yet took effect exactly where its record says so: a pop at 11 or, in a pooled queue, at 15 to 17, a push that is finishing.
-use mathlib.Core.Bool.{Bool, true, false, cond, not, _&&_, _||_}
-use mathlib.Core.List.{List, [], _∷_}
-use mathlib.Core.Logic.{_≢_, _⊎_, inl, inr}
+use mathlib.Core.{Bool.{Bool, true, false, cond, not, _&&_, _||_}, List.{List, [], _∷_}, Logic.{_≢_, _⊎_, inl, inr}}
 use mathlib.Core.Path.{_≡_, _∙_, ap, refl, sym}
 use Prim.Native.Nat.{ℕ, _≤_, _<_, suc, zero}
 use native.Mathlib.{Decide.decLt, Omega.arith}
-use lib.Dec.{eqb, ltb}
-use lib.ListN.{length, List·getD-eq-default}
+use lib.{Dec.{eqb, ltb}, ListN.{length, List·getD-eq-default}}
 use borrow.Author.Tests.{eq-eqb, eqb-false, eqb-true, ltb-true}
-use Rattle.model.specs.declared.Answer.the-variants.{Popped, Pushed}
-use Rattle.model.specs.declared.{Answer.Answer, Call.Call}
+use Rattle.model.specs.{declared.{Answer.{the-variants.{Popped, Pushed}, Answer}, Call.Call}, Lists.All}
 use Rattle.model.specs.Tables.{Queue, atPlace, isPooled, recordAt}
 use Rattle.model.specs.History.{LedgerCall, Effect, Ending, Ledger, answered, isOpen, pending}
-use Rattle.model.proofs.lists.All.{all-map}
-use Rattle.model.proofs.tests.ByPlace.{by-place}
-use Rattle.model.proofs.tests.Truth.{by-test, decide-eq, not-both, split}
+use Rattle.model.proofs.{lists.All.all-map, tests.{ByPlace.by-place, Truth.{by-test, decide-eq, not-both, split}}}
+use Rattle.model.proofs.{invariant.{Owners.Owner, Tasks.{Stage, Task}}, unsound.Safe.Safe}
+use Rattle.model.proofs.bridge.View.{placeList, placeOf, recOf, stateOf}
+use Rattle.model.proofs.ledger.{Matched.Matched, Matches.{Last, Matches, Tracked, Tracks, opens, same-answer}}
 use Rattle.model.proofs.machine.Book as B
 use Rattle.model.proofs.machine.Machine as M
-use Rattle.model.proofs.invariant.Owners.{Owner}
-use Rattle.model.proofs.invariant.Tasks.{Stage, Task}
-use Rattle.model.proofs.bridge.View.{placeList, placeOf, recOf, stateOf}
-use Rattle.model.proofs.ledger.Matched.{Matched}
-use Rattle.model.proofs.ledger.Matches.{Last, Matches, Tracked, Tracks, opens, same-answer}
-use Rattle.model.proofs.unsound.Safe.{Safe}
-use Rattle.model.specs.Lists.{All}
 use Rattle.stock_model.specs.Accounts.{Stands, hasPushed, hasPopped, labelPopped, labelPushed}
 use Rattle.stock_model.proofs.Balance.{AllFit, Fits}
 

@@ -1,16 +1,11 @@
 -- Every label accounted for, from the history of effects. (Document 02, #114.)
-use mathlib.Core.Path.{_≡_}
-use mathlib.Core.Bool.{Bool, _||_, cond, not}
-use mathlib.Core.List.{List, [], _∷_, _++_, map}
+use mathlib.Core.{Path._≡_, Bool.{Bool, _||_, cond, not}, List.{List, [], _∷_, _++_, map}}
 use Prim.Native.Nat.{ℕ, _+_}
 use lib.{Dec.eqb, ListN.length}
-use Rattle.model.specs.declared.{Call.Call, Entry.Entry, Answer.Answer}
-use Rattle.model.specs.declared.Answer.the-variants.{Running, Pushed, Empty, Popped, NoFreeSlot}
-use Rattle.model.specs.Tables.{Tables, Queue, recordAt}
-use Rattle.model.specs.Walk.{contents, met}
-use Rattle.model.specs.History.{Event, Request, run, final, Effect, Ending, pending, answered, LedgerCall, ledger, AfterOpening}
-use Rattle.model.specs.Kinds.{giving}
-use Rattle.model.specs.Lists.{All, copies}
+use Rattle.model.specs.{declared.{Call.Call, Entry.Entry}, Tables.{Tables, Queue, recordAt}, Walk.{contents, met}}
+use Rattle.model.specs.declared.Answer.{Answer, the-variants.{Running, Pushed, Empty, Popped, NoFreeSlot}}
+use Rattle.model.specs.History.{Event, Request, run, final, Effect, Ending, pending, answered, LedgerCall, ledger}
+use Rattle.model.specs.{History.AfterOpening, Kinds.giving, Lists.{All, copies}}
 
 -- The lists that f gives for each entry, one after the other.
 unfoldable pub each : {A : Type 0} → (A → List ℕ) → List A → List ℕ

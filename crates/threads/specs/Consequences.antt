@@ -1,20 +1,12 @@
 -- What follows for the memory that threads leave, at every moment and at rest, for real time, for the labels, and for progress.
-use mathlib.Core.Path.{_≡_}
-use mathlib.Core.Bool.{cond, true}
-use mathlib.Core.List.{List, [], _∷_, _++_}
-use mathlib.Core.Logic.{_≢_}
+use mathlib.Core.{Path._≡_, Bool.{cond, true}, List.{List, [], _∷_, _++_}, Logic._≢_}
 use Prim.Native.Nat.{ℕ, _+_, _<_, _≤_}
 use lib.Dec.{eqb}
-use Rattle.model.specs.declared.Outcome.the-variants.{Refused}
-use Rattle.model.specs.Tables.{Queue, isPooled, marked, withMarks}
-use Rattle.model.specs.History.{Event, Lawful, Ledger, LedgerCall, Request, final, ledger, run}
-use Rattle.model.specs.Walk.{contents, entries}
-use Rattle.model.specs.Standing.{Standing}
-use Rattle.model.specs.Progress.{any, steps, stretchLimit, tookEffectOrAnswered}
-use Rattle.model.specs.Lists.{All}
+use Rattle.model.specs.{declared.Outcome.the-variants.Refused, Tables.{Queue, isPooled, marked, withMarks}, Lists.All}
+use Rattle.model.specs.{History.{Event, Lawful, Ledger, LedgerCall, Request, final, ledger, run}, Standing.Standing}
+use Rattle.model.specs.{Walk.{contents, entries}, Progress.{any, steps, stretchLimit, tookEffectOrAnswered}}
 use Rattle.stock_model.specs.Accounts.{AccountedIn, AddedUp}
-use Rattle.threads_model.specs.Turns.{runTurns, finalTurns}
-use Rattle.threads_model.specs.Instructions.{free}
+use Rattle.threads_model.specs.{Turns.{runTurns, finalTurns}, Instructions.free}
 use Rattle.threads_model.specs.Crew.{Act, calls, next, allFree, goOn, turns, told, outcomesOf, owed}
 use Rattle.threads.specs.Promises.{AfterThreads, Rest, memoryAfter, seenOf}
 

@@ -1,30 +1,22 @@
 -- Worked runs of threads at the grain of single instructions: for each rule a short run that goes wrong without it, then threads that run alone.
 -- Each line holds by computing the meanings.
-use mathlib.Core.Path.{_≡_, refl}
-use mathlib.Core.Bool.{true, false}
-use mathlib.Core.List.{List, [], _∷_, _++_, map}
+use mathlib.Core.{Path.{_≡_, refl}, Bool.{true, false}, List.{List, [], _∷_, _++_, map}}
 use Prim.Native.Nat.{ℕ}
 use lib.ListN.{getD, replicate}
-use Rattle.model.specs.declared.{Call.Call, Record.Record}
-use Rattle.model.specs.declared.Answer.the-variants.{Pushed}
-use Rattle.model.specs.declared.Outcome.{Outcome}
-use Rattle.model.specs.declared.Outcome.the-variants.{Refused, Moved}
-use Rattle.model.specs.declared.Op.{Op}
-use Rattle.model.specs.declared.Op.the-variants.{Push, Pop, PushPooled, Step}
-use Rattle.model.specs.Tables.{Tables, Queue, queueOf, unopened, unused, counting, openedControl, withWords, newCall, withSeen, withNeighbour}
-use Rattle.model.specs.Sound.{anchorSound, linkSound, recordSound, rowsFit}
-use Rattle.model.specs.Places.{sideOf, row, linkSide, reading, at1, at2, at3, new4, at4, at5, at6, at7, at9, at10, at11, at12, at13, at14}
-use Rattle.model.specs.Places.{at15, at16, at17, move}
+use Rattle.model.{specs.declared.{Call.Call, Record.Record, Answer.the-variants.Pushed}, proofs.Bench.{fresh, at, got}}
+use Rattle.model.specs.{declared.Outcome.{Outcome, the-variants.{Refused, Moved}}, Tables.{withSeen, withNeighbour}}
+use Rattle.model.specs.declared.Op.{Op, the-variants.{Push, Pop, PushPooled, Step}}
+use Rattle.model.specs.Tables.{Tables, Queue, queueOf, unopened, unused, counting, openedControl, withWords, newCall}
+use Rattle.model.specs.{Sound.{anchorSound, linkSound, recordSound, rowsFit}, Calls.{opened, openAs, openPooled}}
+use Rattle.model.specs.Places.{sideOf, row, linkSide, reading, at1, at2, at3, new4, at4, at5, at6, at7, at9, at10, at11}
+use Rattle.model.specs.Places.{at12, at13, at14, at15, at16, at17, move}
 use Rattle.model.specs.Route.{pushRoute, popRoute, route, onward, answer, goes, counted}
 use Rattle.model.specs.Refusals.{openRefusal, stepSound, recordRefusal}
-use Rattle.model.specs.Calls.{opened, openAs, openPooled}
-use Rattle.model.proofs.Bench.{fresh, at, got}
-use Rattle.threads_model.specs.Split.{loads, planned, plan, planUnasked, perform, gone, settledAt, meetsAnchor, settle, settleUnasked}
-use Rattle.threads_model.specs.Starts.{ownRefusal, planStart, settleStart}
-use Rattle.threads_model.specs.Turns.{Turn}
-use Rattle.threads_model.specs.Instructions.{isToPut, loadsOwn, isAsRead, putsOwn, readsNext, atOnce, oneWord, replaces, stepFirst, clears}
-use Rattle.threads_model.specs.Instructions.{startFirst, claimsMark, looksMark}
-use Rattle.threads_model.specs.Crew.{Act, calls, next, allFree, go, goOn, turns, told, labelNext}
+use Rattle.threads_model.specs.Split.{loads, planned, plan, planUnasked, perform, gone, settledAt, meetsAnchor}
+use Rattle.threads_model.specs.{Split.{settle, settleUnasked}, Starts.{ownRefusal, planStart, settleStart}}
+use Rattle.threads_model.specs.{Turns.Turn, Crew.{Act, calls, next, allFree, go, goOn, turns, told, labelNext}}
+use Rattle.threads_model.specs.Instructions.{isToPut, loadsOwn, isAsRead, putsOwn, readsNext, atOnce, oneWord}
+use Rattle.threads_model.specs.Instructions.{replaces, stepFirst, clears, startFirst, claimsMark, looksMark}
 
 -- A thread begins a start or a step.
 abbrev begins : ℕ → Op → Act

@@ -1,24 +1,18 @@
 -- A start by its tests, and in its row.
-use mathlib.Core.Path.{_≡_, refl, ap, sym, _∙_}
-use mathlib.Core.Bool.{Bool, true, false, _&&_, cond}
-use mathlib.Core.List.{List}
+use mathlib.Core.{Path.{_≡_, refl, ap, sym, _∙_}, Bool.{Bool, true, false, _&&_, cond}, List.List}
 use Prim.Native.Nat.{ℕ}
 use native.Mathlib.Omega.{arith}
 use lib.Dec.{eqb, leb}
 use borrow.Author.Tests.{eq-eqb, ne-eqb}
-use Rattle.model.specs.declared.{Call.Call, Reply.Reply}
-use Rattle.model.specs.Tables.{started, asking}
-use Rattle.model.specs.Sound.{from1, recordSound}
+use Rattle.model.specs.{declared.{Call.Call, Reply.Reply}, Tables.{started, asking}, Sound.{from1, recordSound}}
 use Rattle.model.proofs.tests.Truth.{split, and-true, not-both}
-use Rattle.sound.proofs.Parts.{idle-sound}
+use Rattle.sound.proofs.{Parts.idle-sound, Refused.unsound}
 use Rattle.rows.specs.Rows.{callOf, recordOf, upperOf}
-use Rattle.sound.proofs.Refused.{unsound}
 use Rattle.threads_model.specs.declared.{PlannedTouch.PlannedTouch, Start.Start}
 use Rattle.threads_model.specs.Split.{refuses, loadsAnchor, loadsHead, plan}
 use Rattle.threads_model.specs.Starts.{Begins, ownRefusal, startWhy, wrongPush, outside, planStart, firstCall, judged}
 use Rattle.threads_model.specs.Starts.{lateWord, loadsMark, takesSlot, settleStart}
-use Rattle.threads.proofs.split.ByRecord.{refuses-plan}
-use Rattle.threads.proofs.split.Planned.{plan1, plan12}
+use Rattle.threads.proofs.split.{ByRecord.refuses-plan, Planned.{plan1, plan12}}
 use Rattle.threads.proofs.split.FirstCalls as first
 use Rattle.threads.proofs.split.SoundFields as F
 use Rattle.touch.specs.Started.{Started, startedBy, loadedBy}

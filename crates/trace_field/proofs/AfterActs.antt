@@ -1,23 +1,16 @@
 -- The page after an operation, a malformed place and an opening: what their code leaves, as the definitions have it.
 use Prim.Native.Nat.{ℕ, _+_}
-use mathlib.Core.Path.{_≡_, refl, sym, ap, _∙_}
-use mathlib.Core.Bool.{Bool, true, false, not, cond}
-use mathlib.Core.List.{List, [], _∷_, append-nil}
-use lib.Dec.{leb, eqb}
-use lib.ListN.{length}
+use mathlib.Core.{Path.{_≡_, refl, sym, ap, _∙_}, Bool.{Bool, true, false, not, cond}, List.{List, [], _∷_, append-nil}}
+use lib.{Dec.{leb, eqb}, ListN.length}
 use borrow.Author.Tests.{leb-true}
-use Rattle.model.specs.declared.{Control.Control, Outcome.Outcome, Record.Record, Op.Op}
-use Rattle.model.specs.declared.Opening.the-variants as opening
-use Rattle.model.specs.Tables.{Tables, Queue, queueOf, unused}
-use Rattle.model.specs.{Refusals.openRefusal, Lists.zeroed}
-use Rattle.model.specs.Calls.{Done, OpenDone, act, openAs}
-use Rattle.model.specs.Calls as calls
+use Rattle.model.specs.{declared.{Control.Control, Outcome.Outcome, Record.Record, Op.Op}, Refusals.openRefusal}
+use Rattle.model.specs.{Tables.{Tables, Queue, queueOf, unused}, Lists.zeroed, Calls.{Done, OpenDone, act, openAs}}
 use Rattle.model.specs.History.{run, final}
+use Rattle.model.specs.declared.Opening.the-variants as opening
+use Rattle.model.specs.Calls as calls
 use Rattle.rows.specs.Rows.{controlOf, recordsOf, queueIn}
-use Rattle.calls.specs.Opening.{OpenedParts, manyRecords, openTables}
-use Rattle.calls.proofs.Openings.{open-parts, whole}
-use Rattle.lines.specs.Line.{Put, givenRoom, room, lineOf}
-use Rattle.lines.specs.declared.Line.the-variants.{Open, File}
+use Rattle.calls.{specs.Opening.{OpenedParts, manyRecords, openTables}, proofs.Openings.{open-parts, whole}}
+use Rattle.lines.specs.{Line.{Put, givenRoom, room, lineOf}, declared.Line.the-variants.{Open, File}}
 use Rattle.lines.proofs.Puts.{put-fits}
 use Rattle.trace_field.specs.Run.{next, anchorIn, linesOf, numberOf, operated, isOpened, openingTold, malformed}
 use Rattle.trace_field.specs.Page.{Page, pageOf, written, answered, emptied, cleared, operates, opens, breaks}

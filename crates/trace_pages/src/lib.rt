@@ -3,13 +3,10 @@
 //! No contract says that the system writes what it is lent.
 use trace_field::RunState;
 ghost use Prim.Native.Nat.{ℕ, _≤_};
-ghost use mathlib.Core.Path.{_≡_};
-ghost use mathlib.Core.Bool.{true};
-ghost use mathlib.Core.List.{List};
+ghost use mathlib.Core.{Path._≡_, Bool.true, List.List};
 ghost use lib.ListN.{length};
 ghost use Rattle.trace_field.specs.Page.{pageOf};
-ghost use Rattle.trace_replay.specs.Feed.{Begins};
-ghost use Rattle.trace_replay.specs.Pieces.{fromStart, nextPage, pagesOf, lastPage};
+ghost use Rattle.trace_replay.specs.{Feed.Begins, Pieces.{fromStart, nextPage, pagesOf, lastPage}};
 ghost use Rattle.trace_pages.specs.Some.{Some};
 
 // Writes out the lines, or tells that it cannot.

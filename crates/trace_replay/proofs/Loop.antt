@@ -1,17 +1,12 @@
 -- The loop that feeds a page: a field, and then the rest; and it comes to its end.
 use Prim.Native.Nat.{ℕ, zero, suc, _+_, _-_, _<_, _≤_}
-use mathlib.Core.Path.{_≡_, refl, sym, ap, _∙_}
-use mathlib.Core.Bool.{Bool, true, false}
-use mathlib.Core.List.{List}
+use mathlib.Core.{Path.{_≡_, refl, sym, ap, _∙_}, Bool.{Bool, true, false}, List.List}
 use native.Mathlib.Omega.{arith}
-use lib.Dec.{leb, eqb}
-use lib.ListN.{length, drop, length-drop}
+use lib.{Dec.{leb, eqb}, ListN.{length, drop, length-drop}}
 use borrow.Author.Tests.{eqb-false, eq-eqb, ne-eqb}
 use Rattle.trace_field.specs.Page.{Page, written, carries, moved, fieldRoom, takes}
-use Rattle.trace_field.proofs.Pages.{cond-true, cond-false}
-use Rattle.trace_field.proofs.Fields.{takes-none}
-use Rattle.runfile.specs.Field.{fieldOf}
-use Rattle.runfile.specs.declared.Found.{Found}
+use Rattle.trace_field.proofs.{Pages.{cond-true, cond-false}, Fields.takes-none}
+use Rattle.runfile.specs.{Field.fieldOf, declared.Found.Found}
 use Rattle.trace_replay.specs.Feed.{feedPageIn, feedPage}
 use Rattle.trace_replay.proofs.Feeding.{sizeAt, Next, waits, breaks, moves, next-of}
 

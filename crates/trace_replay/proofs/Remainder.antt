@@ -1,18 +1,14 @@
 -- What is left of the bytes: a run that goes on has used every whole field, so it leaves less than a field.
 use Prim.Native.Nat.{ℕ, zero, suc, _<_, _≤_}
-use mathlib.Core.Path.{_≡_, refl, sym, ap, _∙_, subst}
-use mathlib.Core.Bool.{Bool, true, false}
-use mathlib.Core.List.{List, [], _∷_, flatten}
+use mathlib.Core.{Path.{_≡_, refl, sym, ap, _∙_, subst}, Bool.{Bool, true, false}, List.{List, [], _∷_, flatten}}
 use native.Mathlib.Omega.{arith}
 use lib.ListN.{length, drop, length-drop}
 use Rattle.model.proofs.tests.Truth.{not-both}
 use Rattle.runfile.specs.Field.{longestField}
-use Rattle.trace_field.specs.Run.{Run}
-use Rattle.trace_field.specs.Page.{Page, fieldRoom}
-use Rattle.trace_replay.specs.Trace.{Fed, feedIn, feed, fresh}
-use Rattle.trace_replay.specs.Pieces.{begun, afterPieces}
-use Rattle.trace_replay.proofs.PageLoop.{Stands}
-use Rattle.trace_replay.proofs.Feeding.{told, sizeAt, Next, waits, breaks, moves, next-of, feed-over, feed-waits, broken, feed-step}
+use Rattle.trace_field.specs.{Run.Run, Page.{Page, fieldRoom}}
+use Rattle.trace_replay.specs.{Trace.{Fed, feedIn, feed, fresh}, Pieces.{begun, afterPieces}}
+use Rattle.trace_replay.proofs.{PageLoop.Stands, Feeding.{broken, feed-step}}
+use Rattle.trace_replay.proofs.Feeding.{told, sizeAt, Next, waits, breaks, moves, next-of, feed-over, feed-waits}
 use Rattle.trace_replay.proofs.Cutting.{Reached, first-reached, pieces-reached}
 
 abbrev LeavesLess : Fed → Type 0

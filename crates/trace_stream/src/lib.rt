@@ -6,15 +6,11 @@ mod refill;
 use trace_field::RunState;
 use trace_pages::AfterPages;
 ghost use Prim.Native.Nat.{_≤_, _<_, _-_};
-ghost use mathlib.Core.Path.{_≡_};
-ghost use mathlib.Core.Bool.{true, false, not, _&&_};
-ghost use lib.Dec.{ltb};
-ghost use lib.ListN.{length, take};
-ghost use lib.Seq.{slice};
+ghost use mathlib.Core.{Path._≡_, Bool.{true, false, not, _&&_}};
+ghost use lib.{Dec.ltb, ListN.{length, take}, Seq.slice};
 ghost use Rattle.runfile.specs.Field.{longestField};
 ghost use Rattle.trace_field.specs.Page.{pageOf, fieldRoom};
-ghost use Rattle.trace_replay.specs.Feed.{Zeros};
-ghost use Rattle.trace_replay.specs.Pieces.{roundPage, Gone};
+ghost use Rattle.trace_replay.specs.{Feed.Zeros, Pieces.{roundPage, Gone}};
 
 // A run after a read: how many bytes the input holds, those from `state.at` on left; whether to read on; whether a read or write failed.
 struct Round {

@@ -1,25 +1,18 @@
 -- What the loop stores is what the walk meets, turned to run from left to right.
-use mathlib.Core.Path.{_≡_, refl, sym, ap, subst, _∙_}
-use mathlib.Core.Bool.{Bool, true, false, cond}
+use mathlib.Core.{Path.{_≡_, refl, sym, ap, subst, _∙_}, Bool.{Bool, true, false, cond}}
 use mathlib.Core.List.{List, [], _∷_, _++_, map, map-append, reverse, reverse-cons}
 use Prim.Native.Nat.{ℕ, zero, suc, _+_, _-_, _<_, _≤_}
-use native.Mathlib.Nat.{zero-add}
-use native.Mathlib.Omega.{arith}
-use lib.Dec.{eqb, leb}
-use borrow.Author.Tests.{leb-true}
-use lib.ListN.{drop, getD, length, length-map, length-reverse, length-set, set}
+use native.Mathlib.{Nat.zero-add, Omega.arith}
+use lib.{Dec.{eqb, leb}, ListN.{drop, getD, length, length-map, length-reverse, length-set, set}}
 use lib.Seq.{append-snoc, sets, sets-eq}
+use borrow.Author.Tests.{leb-true}
 use Rattle.word.specs.Link.{linkOf}
-use Rattle.model.specs.declared.Entry.{Entry}
-use Rattle.model.specs.Tables.{Tables}
-use Rattle.model.specs.Sound.{from1, linkSound}
+use Rattle.model.specs.{declared.Entry.Entry, Tables.Tables, Sound.{from1, linkSound}}
 use Rattle.model.specs.Walk.{Walk, along, andThen, broken, contents, entries, isBroken, met}
 use Rattle.model.proofs.tests.Truth.{and-true, not-both, split}
-use Rattle.walk.specs.declared.Way.{Way}
-use Rattle.walk.specs.Ways.{wayOf, noneOn, linksOn, ahead, turnedBack}
+use Rattle.walk.specs.{declared.Way.Way, Ways.{wayOf, noneOn, linksOn, ahead, turnedBack}}
 use Rattle.walk.proofs.Along.{rest, waits, nothing, off}
-use Rattle.waiting.specs.Waiting.{onto}
-use Rattle.waiting.specs.Laid.{Inside, trail, place, laid}
+use Rattle.waiting.specs.{Waiting.onto, Laid.{Inside, trail, place, laid}}
 
 -- A walk that is not broken meets the entries of as many slots along the links.
 abbrev Follows : List ℕ → List ℕ → ℕ → Walk → Type 0

@@ -1,25 +1,14 @@
 -- The answer: refused before the walk, by the walk, for want of room, or written.
-use mathlib.Core.Path.{_≡_, refl, sym, ap, _∙_}
-use mathlib.Core.Bool.{true, false}
-use mathlib.Core.List.{List, [], _∷_}
+use mathlib.Core.{Path.{_≡_, refl, sym, ap, _∙_}, Bool.{true, false}, List.{List, [], _∷_}}
 use Prim.Native.Nat.{ℕ, _<_, _≤_}
 use native.Mathlib.Omega.{arith}
-use lib.Dec.{ltb}
-use lib.ListN.{length}
+use lib.{Dec.ltb, ListN.length}
 use borrow.Author.Tests.{le-ltb, ltb-false, ltb-true, ne-eqb, not-false}
-use Rattle.model.specs.Tables.{Tables}
-use Rattle.model.specs.Sound.{controlSound, rowTests, rowsFit}
-use Rattle.model.specs.Walk.{contents, isBroken}
-use Rattle.model.specs.Refusals.{Rule, rule, first, tableRules}
-use Rattle.model.specs.Report.{waiting}
-use Rattle.model.proofs.tests.Rules.{tests, cleared, first-refused}
-use Rattle.model.proofs.tests.Truth.{or-false}
-use Rattle.walk.specs.declared.Tally.the-variants.{Broken, Labels}
-use Rattle.walk.specs.declared.Way.{Way}
-use Rattle.walk.specs.Ways.{wayOf, noneOn, linksOn}
-use Rattle.walk.specs.Counted.{counted}
-use Rattle.walk.proofs.Along.{nothing}
-use Rattle.walk.proofs.Counting.{all-counted, none-counted}
+use Rattle.model.specs.{Tables.Tables, Sound.{controlSound, rowTests, rowsFit}, Walk.{contents, isBroken}}
+use Rattle.model.specs.{Refusals.{Rule, rule, first, tableRules}, Report.waiting}
+use Rattle.model.proofs.tests.{Rules.{tests, cleared, first-refused}, Truth.or-false}
+use Rattle.walk.specs.{declared.{Tally.the-variants.{Broken, Labels}, Way.Way}, Ways.{wayOf, noneOn, linksOn}}
+use Rattle.walk.{specs.Counted.counted, proofs.{Along.nothing, Counting.{all-counted, none-counted}}}
 use Rattle.waiting.specs.Waiting.{Written, kept, labelsOf, readOut, slotsOf, tooShort, waitingRefusal}
 use Rattle.waiting.specs.Laid.{Lays, trail, laid}
 use Rattle.waiting.proofs.Laid.{keeps, lays}

@@ -1,13 +1,10 @@
 -- The tables as a loop writes them, slot by slot along the links.
-use mathlib.Core.Bool.{Bool, cond}
-use mathlib.Core.List.{List, [], _∷_}
+use mathlib.Core.{Bool.{Bool, cond}, List.{List, [], _∷_}}
 use Prim.Native.Nat.{ℕ, zero, suc, _+_, _-_, _<_, _≤_}
 use lib.ListN.{getD, length, set}
 use Rattle.word.specs.Link.{linkOf}
-use Rattle.model.specs.declared.Entry.{Entry}
-use Rattle.model.specs.Lists.{All}
-use Rattle.walk.specs.declared.Way.{Way}
-use Rattle.walk.specs.Ways.{linksOn}
+use Rattle.model.specs.{declared.Entry.Entry, Lists.All}
+use Rattle.walk.specs.{declared.Way.Way, Ways.linksOn}
 
 -- The entries of n slots from slot x along the links.
 unfoldable pub trail : List ℕ → List ℕ → ℕ → ℕ → List Entry

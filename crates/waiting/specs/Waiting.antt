@@ -1,17 +1,9 @@
 -- The labels waiting and their slots, from left to right, in two lent tables. (Document 01: Labels waiting, in order; document 02, #102.)
-use mathlib.Core.Path.{_≡_}
-use mathlib.Core.Bool.{Bool, false, _||_, cond}
-use mathlib.Core.List.{List, [], _∷_, _++_, map}
+use mathlib.Core.{Path._≡_, Bool.{Bool, false, _||_, cond}, List.{List, [], _∷_, _++_, map}}
 use Prim.Native.Nat.{ℕ}
-use lib.Dec.{ltb, eqb}
-use lib.ListN.{length, drop}
-use Rattle.model.specs.declared.Entry.{Entry}
-use Rattle.model.specs.Tables.{Tables, Queue}
-use Rattle.model.specs.Sound.{rowsFit}
-use Rattle.model.specs.Walk.{contents, isBroken, met}
-use Rattle.model.specs.Refusals.{Rule, rule, first, tableRules}
-use Rattle.model.specs.Report.{waiting}
-use Rattle.model.specs.Standing.{Standing}
+use lib.{Dec.{ltb, eqb}, ListN.{length, drop}}
+use Rattle.model.specs.{declared.Entry.Entry, Tables.{Tables, Queue}, Sound.rowsFit, Walk.{contents, isBroken, met}}
+use Rattle.model.specs.{Refusals.{Rule, rule, first, tableRules}, Report.waiting, Standing.Standing}
 use Rattle.model.specs.History.{AfterOpening, final, ledger, run}
 use Rattle.waiting.specs.declared.WaitingReply.{WaitingReply}
 

@@ -4,19 +4,15 @@ use sound::Lengths;
 use walk::Tally;
 use walk::Way;
 use word::Link;
-ghost use mathlib.Core.Path.{_≡_};
-ghost use mathlib.Core.Bool.{false};
-ghost use mathlib.Core.List.{List};
+ghost use mathlib.Core.{Path._≡_, Bool.false, List.List};
 ghost use Prim.Native.Nat.{ℕ, _<_};
 ghost use lib.ListN.{length, getD};
 ghost use Rattle.word.specs.Link.{linkOf};
-ghost use Rattle.model.specs.Tables.{tablesOf};
-ghost use Rattle.model.specs.Refusals.{first, tableRules};
+ghost use Rattle.model.specs.{Tables.tablesOf, Refusals.{first, tableRules}};
 ghost use Rattle.sound.specs.Lengths.{lengthsFit};
 ghost use Rattle.rows.specs.Rows.{controlOf};
 ghost use Rattle.walk.specs.Ways.{linksOn};
-ghost use Rattle.waiting.specs.Waiting.{readOut, refused, slotsOf, labelsOf};
-ghost use Rattle.waiting.specs.Laid.{Lays, trail, place, laid};
+ghost use Rattle.waiting.specs.{Waiting.{readOut, refused, slotsOf, labelsOf}, Laid.{Lays, trail, place, laid}};
 
 /// The answer as C sees it.
 #[repr(C)]

@@ -1,23 +1,15 @@
 -- The walk one slot on, and what comes of a loop that goes along it.
-use mathlib.Core.Path.{_≡_, refl, sym, ap, _∙_}
-use mathlib.Core.Bool.{Bool, true, false, _&&_, cond}
-use mathlib.Core.List.{List, [], _∷_}
-use mathlib.Core.Logic.{_≢_}
+use mathlib.Core.{Path.{_≡_, refl, sym, ap, _∙_}, Bool.{Bool, true, false, _&&_, cond}, List.{List, [], _∷_}, Logic._≢_}
 use Prim.Native.Nat.{ℕ, zero, suc, _+_, _-_, _%_, _^_, _<_, _≤_}
 use native.Mathlib.Omega.{arith}
-use lib.Dec.{eqb, leb}
-use lib.ListN.{getD}
+use lib.{Dec.{eqb, leb}, ListN.getD}
 use borrow.Author.Tests.{eqb-true, eq-eqb, ne-eqb, le-leb, leb-true}
-use Rattle.word.specs.Anchor.{anchorOf}
-use Rattle.word.specs.Link.{linkOf, spareOf}
-use Rattle.model.specs.declared.Entry.{Entry}
-use Rattle.model.specs.Tables.{Tables}
-use Rattle.model.specs.Sound.{from1, linkSound}
+use Rattle.word.specs.{Anchor.anchorOf, Link.{linkOf, spareOf}}
+use Rattle.model.specs.{declared.Entry.Entry, Tables.Tables, Sound.{from1, linkSound}}
 use Rattle.model.specs.Walk.{Walk, along, andThen, broken, contents, entries, walkFrom}
 use Rattle.model.proofs.tests.Truth.{split, and-true}
-use Rattle.walk.specs.declared.Way.{Way}
-use Rattle.walk.specs.Ways.{wayOf, noneOn, linksOn, leadsTo, ahead, turnedBack}
-use Rattle.walk.specs.Over.{Made, made, lost, each, over}
+use Rattle.walk.specs.{declared.Way.Way, Ways.{wayOf, noneOn, linksOn, leadsTo, ahead, turnedBack}}
+use Rattle.walk.specs.Over.{Made, made, lost, over}
 
 -- The lower half of a sound link word is its slot.
 pub half-slot : (slots l : ℕ) → linkSound slots l ≡ true → l % 2 ^ 32 ≡ linkOf l .slot

@@ -1,14 +1,9 @@
 -- The way of a walk, and where a link leads.
-use mathlib.Core.Bool.{Bool, _&&_, cond}
-use mathlib.Core.List.{List}
+use mathlib.Core.{Bool.{Bool, _&&_, cond}, List.List}
 use Prim.Native.Nat.{ℕ}
-use lib.Dec.{eqb}
-use lib.ListN.{getD}
-use Rattle.word.specs.Anchor.{anchorOf}
-use Rattle.word.specs.Link.{linkOf}
-use Rattle.model.specs.declared.Control.{Control}
-use Rattle.model.specs.Sides.{near, far}
-use Rattle.model.specs.Sound.{linkSound}
+use lib.{Dec.eqb, ListN.getD}
+use Rattle.word.specs.{Anchor.anchorOf, Link.linkOf}
+use Rattle.model.specs.{declared.Control.Control, Sides.{near, far}, Sound.linkSound}
 use Rattle.model.specs.Walk.{Walk, along, walkFrom, whence}
 use Rattle.walk.specs.declared.Way.{Way}
 

@@ -1,16 +1,11 @@
 //! The walk of the labels waiting: where it begins, where a link leads, and how many labels it meets.
 use model::Control;
 use word::Anchor;
-ghost use mathlib.Core.Path.{_≡_};
-ghost use mathlib.Core.Bool.{true};
-ghost use mathlib.Core.List.{List};
+ghost use mathlib.Core.{Path._≡_, Bool.true, List.List};
 ghost use Prim.Native.Nat.{ℕ};
 ghost use lib.ListN.{getD};
-ghost use Rattle.model.specs.Tables.{tablesOf};
-ghost use Rattle.model.specs.Sound.{from1};
-ghost use Rattle.model.specs.Walk.{contents};
-ghost use Rattle.walk.specs.Ways.{wayOf, noneOn, linksOn, leadsTo, ahead};
-ghost use Rattle.walk.specs.Counted.{counted};
+ghost use Rattle.model.specs.{Tables.tablesOf, Sound.from1, Walk.contents};
+ghost use Rattle.walk.specs.{Ways.{wayOf, noneOn, linksOn, leadsTo, ahead}, Counted.counted};
 
 // The lower half of a word is below this; that of a sound link word is its slot.
 const HALF: u64 = 4294967296;

@@ -1,14 +1,10 @@
 -- Each return is the first rule that applies, by the tests passed before it.
-use mathlib.Core.Bool.{Bool, true, false, not, cond}
-use mathlib.Core.List.{List, [], _∷_, _++_}
-use mathlib.Core.Path.{_≡_, refl, sym, _∙_}
+use mathlib.Core.{Bool.{Bool, true, false, not, cond}, List.{List, [], _∷_, _++_}, Path.{_≡_, refl, sym, _∙_}}
 use Prim.Native.Nat.{ℕ}
 use lib.Dec.{leb, ltb}
-use Rattle.model.specs.Tables.{Tables, isPooled, tablesOf}
-use Rattle.model.specs.Sound.{rowsFit}
-use Rattle.model.specs.Places.{wordFound}
-use Rattle.model.specs.Refusals.{Lent, Rule, rule, first, fits, admission, admissionRules, recordRules, recordRefusal, stepSound, stepRefusal}
-use Rattle.model.proofs.tests.Rules.{first-passed, first-refused}
+use Rattle.model.specs.{Tables.{Tables, isPooled, tablesOf}, Sound.rowsFit, Places.wordFound}
+use Rattle.model.specs.Refusals.{Lent, Rule, rule, first, fits, admission, admissionRules, recordRules, recordRefusal}
+use Rattle.model.{specs.Refusals.{stepSound, stepRefusal}, proofs.tests.Rules.{first-passed, first-refused}}
 use Rattle.sound.specs.Lengths.{lengthsFit}
 use Rattle.asking.specs.WhyRefused.{touchRefusal}
 use Rattle.asking.proofs.refusal.Statement.{statement}

@@ -1,17 +1,12 @@
 -- 40, an order that is no rearrangement, or the replay.
-use mathlib.Core.Bool.{true}
-use mathlib.Core.Path.{_≡_, sym, _∙_}
-use mathlib.Core.List.{List}
+use mathlib.Core.{Bool.true, Path.{_≡_, sym, _∙_}, List.List}
 use Prim.Native.Nat.{ℕ, _/_}
 use native.Mathlib.Omega.{arith}
-use borrow.Author.Needs.{needs}
-use borrow.Author.Tests.{not-false, not-true}
+use borrow.Author.{Needs.needs, Tests.{not-false, not-true}}
 use lib.ListN.{length}
-use Rattle.audit_model.specs.Audit.{accepted, rearranges}
-use Rattle.audit_model.specs.LentHistory.{callsIn}
+use Rattle.audit_model.specs.{Audit.{accepted, rearranges}, LentHistory.callsIn}
 use Rattle.audit.proofs.Verdicts.{at-most-64, out-of-order, rearranged, refused, replayed-so}
-use Rattle.audit.proofs.WordsRead.{count-is}
-use Rattle.audit.proofs.audit_words.Statement.{statement}
+use Rattle.audit.proofs.{WordsRead.count-is, audit_words.Statement.statement}
 use Rattle.audit.proofs.audit_words.Tie as tie
 
 returns : tie.Need-returns

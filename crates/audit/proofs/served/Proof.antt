@@ -1,23 +1,14 @@
 -- What is left of the replay leads from here to where the whole replay leads; so far no position stands too early.
-use mathlib.Core.List.{List, [], _∷_, map}
-use mathlib.Core.Path.{_≡_, refl, sym, ap, _∙_}
+use mathlib.Core.{List.{List, [], _∷_, map}, Path.{_≡_, refl, sym, ap, _∙_}}
 use Prim.Native.Nat.{ℕ, _+_, _-_, _/_, _≤_}
 use native.Mathlib.Omega.{arith}
-use borrow.Author.Needs.{needs}
-use borrow.Author.Tests.{not-false, not-true}
-use lib.ListN.{length, getD, drop, drop-of-length-le, replicate}
-use lib.Seq.{slice-empty}
-use Rattle.audit_model.specs.declared.Finished.{Finished}
-use Rattle.audit_model.specs.declared.Verdict.the-variants.{Failed}
+use borrow.Author.{Needs.needs, Tests.{not-false, not-true}}
+use lib.{ListN.{length, getD, drop, drop-of-length-le, replicate}, Seq.slice-empty}
+use Rattle.audit_model.specs.{declared.{Finished.Finished, Verdict.the-variants.Failed}, LentHistory.callsIn}
 use Rattle.audit_model.specs.Audit.{inOrder, nobody, replay}
-use Rattle.audit_model.specs.LentHistory.{callsIn}
-use Rattle.audit.specs.FirstMisplaced.{firstMisplaced}
-use Rattle.audit.specs.LabelQueue.{Holds, held, labelAt}
-use Rattle.audit.proofs.Buffer.{zeros-hold}
-use Rattle.audit.proofs.Misplaced.{misplaced-within}
-use Rattle.audit.proofs.Turn.{fails, goes-on, next-misplaced, stops}
-use Rattle.audit.proofs.WordsRead.{next-call, number-known}
-use Rattle.audit.proofs.served.Statement.{statement}
+use Rattle.audit.specs.{FirstMisplaced.firstMisplaced, LabelQueue.{Holds, held, labelAt}}
+use Rattle.audit.proofs.{Buffer.zeros-hold, Misplaced.misplaced-within, WordsRead.{next-call, number-known}}
+use Rattle.audit.proofs.{Turn.{fails, goes-on, next-misplaced, stops}, served.Statement.statement}
 use Rattle.audit.proofs.served.Tie as tie
 
 abbrev Inv-loop : tie.InvT-loop

@@ -3,13 +3,11 @@ use mathlib.Core.Path.{_≡_, refl, sym, _∙_}
 use Prim.Native.Nat.{_-_, _≤_}
 use native.Mathlib.Omega.{arith}
 use lib.ListN.{length}
-use borrow.Author.Needs.{needs}
-use borrow.Author.Tests.{not-true, not-false}
+use borrow.Author.{Needs.needs, Tests.{not-true, not-false}}
 use Rattle.model.specs.Solo.{soloRun}
 use Rattle.rows.specs.Rows.{queueIn, uppersOf}
 use Rattle.capi_run.proofs.StepsToGo.{to-go, to-go-more, runs-on, answered, refused, stopped, cut}
-use Rattle.capi_run.proofs.NoSteps.{none-ran}
-use Rattle.capi_run.proofs.zc_run.Statement.{statement}
+use Rattle.capi_run.proofs.{NoSteps.none-ran, zc_run.Statement.statement}
 use Rattle.capi_run.proofs.zc_run.Tie as tie
 
 abbrev Inv-loop : tie.InvT-loop

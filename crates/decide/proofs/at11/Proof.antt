@@ -1,8 +1,6 @@
 -- Each return is one of the cases.
-use mathlib.Core.Path.{_≡_, sym, _∙_}
-use mathlib.Core.Bool.{true}
-use borrow.Author.Tests.{eq-eqb, ne-eqb}
-use borrow.Author.Needs.{needs}
+use mathlib.Core.{Path.{_≡_, sym, _∙_}, Bool.true}
+use borrow.Author.{Tests.{eq-eqb, ne-eqb}, Needs.needs}
 use Rattle.model.specs.Sound.{from1}
 use Rattle.decide.specs.Decided.{ownEnd, found11}
 use Rattle.decide.proofs.at11.Statement.{statement}

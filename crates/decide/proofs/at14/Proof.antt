@@ -1,7 +1,6 @@
 -- Each return is one of the cases.
 use mathlib.Core.Path.{sym, _∙_}
-use borrow.Author.Tests.{eq-eqb, ne-eqb}
-use borrow.Author.Needs.{needs}
+use borrow.Author.{Tests.{eq-eqb, ne-eqb}, Needs.needs}
 use Rattle.decide.specs.Decided.{found14}
 use Rattle.decide.proofs.at14.Statement.{statement}
 use Rattle.decide.proofs.at14.Tie as tie

@@ -1,8 +1,6 @@
 -- Each return is one of the cases.
 use mathlib.Core.Path.{_≡_, sym, _∙_}
-use mathlib.Core.Bool.{Bool}
-use borrow.Author.Tests.{eq-eqb, ne-eqb, not-true, not-false}
-use borrow.Author.Needs.{needs}
+use borrow.Author.{Tests.{eq-eqb, ne-eqb, not-true, not-false}, Needs.needs}
 use Rattle.model.specs.Sound.{from1}
 use Rattle.decide.specs.Decided.{found9}
 use Rattle.decide.proofs.at9.Statement.{statement}

@@ -1,8 +1,7 @@
 -- Turned away by its number alone, or moved on.
 use mathlib.Core.Path.{sym, _∙_}
 use borrow.Author.Needs.{needs}
-use Rattle.model.specs.{Sound.rowsFit, Refusals.alone, Calls.stepLent}
-use Rattle.model.specs.Tables.{Tables, tablesOf}
+use Rattle.model.specs.{Sound.rowsFit, Refusals.alone, Calls.stepLent, Tables.{Tables, tablesOf}}
 use Rattle.sound.specs.Lengths.{lengthsFit}
 use Rattle.engine.proofs.InParts.{turned-away, admitted}
 use Rattle.deque.proofs.step_alone.Statement.{statement}

@@ -1,21 +1,14 @@
 -- With n slots met: what comes of the positions noted along the rest of the walk is what the whole walk notes.
-use mathlib.Core.Path.{_≡_, refl, sym, ap, _∙_}
-use mathlib.Core.Bool.{true}
-use mathlib.Core.List.{List, []}
+use mathlib.Core.{Path.{_≡_, refl, sym, ap, _∙_}, Bool.true, List.{List, []}}
 use Prim.Native.Nat.{ℕ, _≤_, _+_, _-_}
 use native.Mathlib.Omega.{arith}
 use lib.ListN.{getD, length}
-use borrow.Author.Needs.{needs}
 use Rattle.model.specs.Sound.{from1}
-use Rattle.walk.specs.declared.Way.{Way}
-use Rattle.walk.specs.Ways.{ahead}
-use Rattle.walk.specs.Over.{made, over}
+use Rattle.walk.specs.{declared.Way.Way, Ways.ahead, Over.{made, over}}
 use Rattle.walk.proofs.Along.{comes, begins, full, breaks, stops, goes, real}
 use Rattle.find_model.specs.Noting.{note}
-use Rattle.find.specs.Sieve.{Ready}
-use Rattle.find.specs.Looked.{Noted, noteOn}
-use Rattle.find.proofs.Noted.{note-length}
-use Rattle.find.proofs.look.Statement.{statement}
+use Rattle.find.specs.{Sieve.Ready, Looked.{Noted, noteOn}}
+use Rattle.find.proofs.{Noted.note-length, look.Statement.statement}
 use Rattle.find.proofs.look.Tie as tie
 
 abbrev with : ℕ → List ℕ → Noted

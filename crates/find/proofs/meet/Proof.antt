@@ -1,15 +1,10 @@
 -- A label that does not pass was not asked for, and nothing is noted.
-use mathlib.Core.Path.{_≡_, sym, _∙_}
-use mathlib.Core.Bool.{false, _||_}
+use mathlib.Core.Path.{sym, _∙_}
 use Prim.Native.Nat.{_%_}
 use lib.Dec.{leb}
-use borrow.Author.Needs.{needs}
-use borrow.Author.Tests.{leb-false}
-use Rattle.model.specs.Tables.{marked}
-use Rattle.model.proofs.tests.Truth.{or-false}
-use Rattle.find.proofs.Noted.{none-noted}
-use Rattle.find.proofs.Sieve.{not-wanted}
-use Rattle.find.proofs.meet.Statement.{statement}
+use borrow.Author.{Needs.needs, Tests.leb-false}
+use Rattle.model.{specs.Tables.marked, proofs.tests.Truth.or-false}
+use Rattle.find.proofs.{Noted.none-noted, Sieve.not-wanted, meet.Statement.statement}
 use Rattle.find.proofs.meet.Tie as tie
 
 returns-2 : tie.Need-returns-2

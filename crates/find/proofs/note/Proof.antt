@@ -1,15 +1,11 @@
 -- After i turns the first i labels asked for are done.
-use mathlib.Core.Path.{_≡_, refl, sym, ap, _∙_}
-use mathlib.Core.List.{List}
+use mathlib.Core.{Path.{_≡_, refl, sym, ap, _∙_}, List.List}
 use Prim.Native.Nat.{ℕ, _≤_, _-_}
-use native.Mathlib.Numerals.{add-one}
-use native.Mathlib.Omega.{arith}
-use lib.ListN.{length, getD, set, take}
-use lib.Seq.{take-length}
+use native.Mathlib.{Numerals.add-one, Omega.arith}
+use lib.{ListN.{length, getD, set, take}, Seq.take-length}
 use borrow.Author.Needs.{needs}
 use Rattle.find_model.specs.Noting.{note, pick}
-use Rattle.find.proofs.Noted.{note-more, note-length}
-use Rattle.find.proofs.note.Statement.{statement}
+use Rattle.find.proofs.{Noted.{note-more, note-length}, note.Statement.statement}
 use Rattle.find.proofs.note.Tie as tie
 
 abbrev Inv-loop : tie.InvT-loop

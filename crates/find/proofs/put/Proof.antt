@@ -2,8 +2,7 @@
 use mathlib.Core.Path.{sym, ap, _∙_}
 use lib.ListN.{getD, set}
 use borrow.Author.Needs.{needs}
-use Rattle.find.proofs.Noted.{set-own, pick-other, pick-kept, pick-put}
-use Rattle.find.proofs.put.Statement.{statement}
+use Rattle.find.proofs.{Noted.{set-own, pick-other, pick-kept, pick-put}, put.Statement.statement}
 use Rattle.find.proofs.put.Tie as tie
 
 returns : tie.Need-returns

@@ -1,19 +1,12 @@
 -- Broken, found from the right end and turned, or found from the left.
-use mathlib.Core.Path.{_≡_, refl, sym, ap, _∙_}
-use mathlib.Core.Bool.{true, false}
-use mathlib.Core.List.{List}
+use mathlib.Core.{Path.{_≡_, refl, sym, ap, _∙_}, List.List}
 use Prim.Native.Nat.{ℕ}
 use native.Mathlib.Omega.{arith}
-use lib.ListN.{length, length-replicate, replicate}
-use borrow.Author.Needs.{needs}
-use borrow.Author.Tests.{not-true, not-false}
+use lib.ListN.{length, length-replicate}
+use borrow.Author.{Needs.needs, Tests.{not-true, not-false}}
 use Rattle.model.specs.Walk.{Walk}
-use Rattle.walk.specs.declared.Tally.{Tally}
-use Rattle.walk.specs.declared.Tally.the-variants.{Labels}
-use Rattle.walk.specs.Ways.{ahead, turnedBack}
-use Rattle.walk.specs.Over.{over}
+use Rattle.walk.specs.{declared.Tally.{Tally, the-variants.Labels}, Ways.{ahead, turnedBack}, Over.over}
 use Rattle.walk.proofs.Along.{nowhere}
-use Rattle.find_model.specs.declared.FindReply.{FindReply}
 use Rattle.find.specs.Looked.{noteOn, noted, foundIn}
 use Rattle.find.proofs.Searching.{blank, within, nothing-found, blanked, left-found, right-found}
 use Rattle.find.proofs.search.Statement.{statement}

@@ -5,8 +5,7 @@ use native.Mathlib.Omega.{arith}
 use lib.ListN.{length, getD}
 use borrow.Author.Needs.{needs}
 use Rattle.model.specs.Tables.{withMark}
-use Rattle.find.proofs.Sieve.{Below, one-more}
-use Rattle.find.proofs.sift.Statement.{statement}
+use Rattle.find.proofs.{Sieve.{Below, one-more}, sift.Statement.statement}
 use Rattle.find.proofs.sift.Tie as tie
 
 abbrev Inv-loop : tie.InvT-loop

@@ -1,17 +1,12 @@
 -- Refused before the walk, with nothing waiting, or found.
-use mathlib.Core.Path.{_≡_, refl, sym, ap, _∙_}
-use mathlib.Core.List.{List, []}
+use mathlib.Core.{Path.{_≡_, refl, sym, ap, _∙_}, List.{List, []}}
 use Prim.Native.Nat.{ℕ}
 use borrow.Author.Needs.{needs}
-use Rattle.model.specs.declared.Control.{Control}
-use Rattle.model.specs.Tables.{Tables, tablesOf}
-use Rattle.model.specs.Walk.{entries}
+use Rattle.model.specs.{declared.Control.Control, Tables.{Tables, tablesOf}, Walk.entries}
 use Rattle.rows.specs.Rows.{controlOf}
 use Rattle.walk.proofs.Along.{nothing}
-use Rattle.find_model.specs.declared.FindReply.{FindReply}
-use Rattle.find_model.specs.Find.{find}
-use Rattle.find.proofs.Finding.{turned-away, few, finds, on-way}
-use Rattle.find.proofs.Searching.{none-found}
+use Rattle.find_model.specs.{declared.FindReply.FindReply, Find.find}
+use Rattle.find.proofs.{Finding.{turned-away, few, finds, on-way}, Searching.none-found}
 use Rattle.find.proofs.zc_find.Statement.{statement}
 use Rattle.find.proofs.zc_find.Tie as tie
 

@@ -1,19 +1,14 @@
 -- Refused, nothing to lay, or laid: on the queues that the call was given.
-use mathlib.Core.Path.{_≡_, sym, _∙_}
-use mathlib.Core.List.{List, []}
+use mathlib.Core.{Path.{_≡_, sym, _∙_}, List.{List, []}}
 use Prim.Native.Nat.{ℕ, _+_, _≤_}
 use native.Mathlib.Omega.{arith}
 use lib.Dec.{eqb}
-use borrow.Author.Needs.{needs}
-use borrow.Author.Tests.{eqb-true}
-use Rattle.model.specs.Tables.{Queue, queueOf}
-use Rattle.model.proofs.tests.Truth.{and-true}
+use borrow.Author.{Needs.needs, Tests.eqb-true}
+use Rattle.model.{specs.Tables.{Queue, queueOf}, proofs.tests.Truth.and-true}
 use Rattle.rows.specs.Rows.{recordsOf}
-use Rattle.join_model.specs.Join.{anchorIn}
-use Rattle.join_model.specs.Closed.{closedRefusal}
+use Rattle.join_model.specs.{Join.anchorIn, Closed.closedRefusal}
 use Rattle.join.specs.Admits.{Admits}
-use Rattle.join.proofs.Joining.{refuses, nothing, few, low-tag, lays, one-left}
-use Rattle.join.proofs.join.Statement.{statement}
+use Rattle.join.proofs.{Joining.{refuses, nothing, few, low-tag, lays, one-left}, join.Statement.statement}
 use Rattle.join.proofs.join.Tie as tie
 
 -- What the call was given.

@@ -1,18 +1,16 @@
 -- What holds of the move of each place, done or failed, holds of every move.
-use mathlib.Core.Bool.{Bool, cond}
-use mathlib.Core.{Logic._≢_, Path._≡_}
+use mathlib.Core.{Bool.{Bool, cond}, Logic._≢_, Path._≡_}
 use Prim.Native.Nat.{ℕ, suc, _+_, _≤_}
 use native.Mathlib.Omega.{arith}
 use lib.Dec.{eqb}
 use borrow.Author.Tests.{eqb-false, eqb-true}
-use Rattle.word.specs.Anchor.{anchorOf, packAnchor}
-use Rattle.word.specs.Link.{linkOf, packLink}
-use Rattle.model.specs.Places.{Move, Touch, at1, at10, at11, at12, at13, at14, at15, at16, at17, at2, at3, at4, at5, at6, at7, at9, clearMark}
-use Rattle.model.specs.Places.{endSeen, linkSide, move, new4, nothing, raised, row, setAnchor, setHead, setLink, setNext, sideOf, takeSlot}
-use Rattle.model.specs.Tables.{isPooled, withLink, withNeighbour, withOwn, withSeen}
+use Rattle.word.specs.{Anchor.{anchorOf, packAnchor}, Link.{linkOf, packLink}}
+use Rattle.model.specs.Places.{Move, Touch, at1, at10, at11, at12, at13, at14, at15, at16, at17, at2, at3, at4}
+use Rattle.model.specs.Places.{at5, at6, at7, at9, clearMark, endSeen, linkSide, move, new4, nothing, raised, row}
+use Rattle.model.specs.{Places.{setAnchor, setHead, setLink, setNext, sideOf, takeSlot}, Kinds.isPush}
+use Rattle.model.specs.{Tables.{isPooled, withLink, withNeighbour, withOwn, withSeen}, Sides.facing}
 use Rattle.model.specs.declared.{Control.Control, Call.Call}
 use Rattle.model.proofs.tests.Truth.{by-test, either}
-use Rattle.model.specs.{Kinds.isPush, Sides.facing}
 
 -- The touches of a change of Anchor at 2 and 10, and of a link at 3 and 9.
 abbrev pub both : Call → ℕ

@@ -1,16 +1,13 @@
 -- What holds of a busy task's record, by its place. In the comments A is the Anchor as read, `current` means that it is Anchor,
 -- e is its end at the side that matters, and the numbers are the lines of docs/PROOF.md.
 -- Each fact names the fields that it speaks of and not the record, so that it stands unchanged where another field changes.
-use mathlib.Core.Bool.{Bool, false, true}
-use mathlib.Core.Logic.{_≢_, _⊎_}
-use mathlib.Core.Path.{_≡_}
+use mathlib.Core.{Bool.{Bool, false, true}, Logic.{_≢_, _⊎_}, Path._≡_}
 use Prim.Native.Nat.{_<_, _≤_, ℕ}
-use Rattle.model.proofs.machine.Book.{BookCall}
-use Rattle.model.proofs.machine.Machine.{Anchor, Answer, Draw, Give, Kind, Link, Place, Rec, Shared, at1, at10, at11, at12, at13}
-use Rattle.model.proofs.machine.Machine.{at14, at15, at16, at17, at2, at3, at4, at5, at6, at7, at8, at9, draw, give, idle, inner}
-use Rattle.model.proofs.machine.Machine.{pop, popped, push, pushed, pushing, stable, tip, towards}
-use Rattle.model.proofs.invariant.Owners.{Owner, held}
-use Rattle.model.proofs.invariant.Shape.{Made}
+use Rattle.model.proofs.machine.{Book.BookCall, Machine.{stable, tip, towards}}
+use Rattle.model.proofs.machine.Machine.{Anchor, Answer, Draw, Give, Kind, Link, Place, Rec, Shared, at1, at10}
+use Rattle.model.proofs.machine.Machine.{at11, at12, at13, at14, at15, at16, at17, at2, at3, at4, at5, at6, at7}
+use Rattle.model.proofs.machine.Machine.{at8, at9, draw, give, idle, inner, pop, popped, push, pushed, pushing}
+use Rattle.model.proofs.invariant.{Owners.{Owner, held}, Shape.Made}
 
 -- The call is the one that the record works at: kind, side, slot and label are as its start named them.
 pub record Agrees (k : Kind) (d : Bool) (x l : ℕ) (c : BookCall) : Type 0 where

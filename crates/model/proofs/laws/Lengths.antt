@@ -1,24 +1,18 @@
 -- No call changes the length of a table.
-use mathlib.Core.Path.{_≡_, refl}
-use mathlib.Core.Bool.{Bool, true, false, _||_, not, cond}
-use mathlib.Core.List.{List}
+use mathlib.Core.{Path.{_≡_, refl}, Bool.{Bool, true, false, _||_, not, cond}, List.List}
 use Prim.Native.Nat.{ℕ, _+_, _/_, _≤_}
 use native.Mathlib.Omega.{arith}
-use lib.Dec.{eqb, leb, ltb}
-use lib.ListN.{length, set, length-set, length-append, length-replicate, length-drop}
+use lib.{Dec.{eqb, leb, ltb}, ListN.{length, set, length-set, length-append, length-replicate, length-drop}}
 use borrow.Author.Tests.{leb-true, ltb-true, not-false}
-use Rattle.model.specs.declared.{Record.Record, Op.Op}
-use Rattle.model.specs.declared.Op.the-variants.{Push, Pop, PushPooled, Step}
-use Rattle.model.specs.Tables.{tablesOf, Tables, Queue, unused, taskAt}
-use Rattle.model.specs.Sound.{rowTests, rowsFit}
-use Rattle.model.specs.Places.{Touch, nothing, setAnchor, setLink, clearMark, takeSlot, setNext, setHead, wordFound, move, apply}
-use Rattle.model.specs.Refusals.{Lent, among, alone, openRules, stepRefusal, pushRefusal, pushPooledRefusal, popRefusal}
-use Rattle.model.specs.Calls.{stacked, opened, OpenDone, openAs, Acted, decide, pushStart, pushPooledStart, popStart, finish, step, actOn, act, stepLent}
-use Rattle.model.proofs.lists.Range.{length-climb}
-use Rattle.model.proofs.tests.Truth.{either, and-true}
-use Rattle.model.proofs.tests.Rules.{tests}
+use Rattle.model.specs.declared.{Record.Record, Op.{Op, the-variants.{Push, Pop, PushPooled, Step}}}
+use Rattle.model.specs.{Tables.{tablesOf, Tables, Queue, unused, taskAt}, Sound.{rowTests, rowsFit}, Lists.zeroed}
+use Rattle.model.specs.Places.{Touch, nothing, setAnchor, setLink, clearMark, takeSlot, setNext, setHead, move}
+use Rattle.model.specs.{Places.{wordFound, apply}, Refusals.popRefusal}
+use Rattle.model.specs.Refusals.{Lent, among, alone, openRules, stepRefusal, pushRefusal, pushPooledRefusal}
+use Rattle.model.specs.Calls.{stacked, opened, OpenDone, openAs, Acted, decide, pushStart, pushPooledStart, step}
+use Rattle.model.specs.Calls.{popStart, finish, actOn, act, stepLent}
+use Rattle.model.proofs.{lists.Range.length-climb, tests.{Truth.{either, and-true}, Rules.tests}}
 use Rattle.model.proofs.laws.Refusals.{OpenDecided, accepted-opening, refused-opening, open-decided}
-use Rattle.model.specs.Lists.{zeroed}
 
 pub record Lengths : Type 0 where
   pub lefts : ℕ

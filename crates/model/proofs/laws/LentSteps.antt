@@ -1,21 +1,15 @@
 -- Steps on lent records in the place of their tasks' steps.
-use mathlib.Core.Path.{_≡_, _∙_, ap, refl, subst, sym}
-use mathlib.Core.{Bool.true, Logic._≢_}
-use mathlib.Core.List.{List, [], _∷_}
+use mathlib.Core.{Path.{_≡_, _∙_, ap, refl, subst, sym}, Bool.true, Logic._≢_, List.{List, [], _∷_}}
 use Prim.Native.Nat.{ℕ, _≤_}
 use native.Mathlib.Omega.{arith}
 use lib.{Dec.eqb, ListN.length, Seq.set-getD}
-use Rattle.model.specs.declared.Outcome.the-variants.{Refused}
-use Rattle.model.specs.declared.Op.the-variants.{Step}
-use Rattle.model.specs.Tables.{Queue, taskAt, unused}
-use Rattle.model.specs.Refusals.{Rule, alone, first, stepRefusal, stepRules}
-use Rattle.model.specs.Calls.{Acted, Done, act, finish, step, stepLent}
-use Rattle.model.specs.History.{Event, Request, final, run}
-use Rattle.model.specs.LentSteps.{LentKnown, LentStand, Lendable, Turn, requested, finalTurns, lent, requestOf, runTurns, takeTurn}
+use Rattle.model.specs.{declared.{Outcome.the-variants.Refused, Op.the-variants.Step}, Lists.All}
+use Rattle.model.specs.{Tables.{Queue, taskAt, unused}, Refusals.{Rule, alone, first, stepRefusal, stepRules}}
+use Rattle.model.specs.{Calls.{Acted, Done, act, finish, step, stepLent}, History.{Event, Request, final, run}}
+use Rattle.model.specs.LentSteps.{LentKnown, LentStand, Lendable, Turn, requested, finalTurns, lent, requestOf}
+use Rattle.model.specs.LentSteps.{runTurns, takeTurn}
 use Rattle.model.proofs.tests.Truth.{by-test, not-both}
-use Rattle.model.proofs.laws.{Lengths.act-lengths, Sizes.act-tasks}
-use Rattle.model.proofs.laws.LentRecord.{lent-record, withRow}
-use Rattle.model.specs.Lists.{All}
+use Rattle.model.proofs.laws.{Lengths.act-lengths, Sizes.act-tasks, LentRecord.{lent-record, withRow}}
 
 -- A task's own record, put where it lies.
 own-row : (q : Queue) (t : ℕ) → withRow q t (taskAt q t) ≡ q

@@ -1,24 +1,16 @@
 -- A step of a busy, sound record leads on: to a place other than 0, or to an answer.
-use mathlib.Core.Path.{_≡_, refl, sym, subst}
-use mathlib.Core.Bool.{Bool, true, false, _&&_, _||_, cond}
-use mathlib.Core.List.{List, []}
+use mathlib.Core.{Path.{_≡_, refl, sym, subst}, Bool.{Bool, true, false, _&&_, _||_, cond}, List.{List, []}}
 use Prim.Native.Nat.{ℕ, _+_, zero, suc}
 use native.Mathlib.Omega.{arith}
-use lib.Dec.{eqb, leb}
-use lib.ListN.{getD}
+use lib.{Dec.{eqb, leb}, ListN.getD}
 use borrow.Author.Tests.{eqb-true, eqb-false, leb-true}
-use Rattle.word.specs.declared.Anchor.{Anchor}
-use Rattle.word.specs.{Anchor.anchorOf, Link.linkOf}
-use Rattle.model.specs.declared.{Control.Control, Call.Call}
-use Rattle.model.specs.Tables.{atPlace, isPooled}
-use Rattle.model.specs.{Sound.recordSound, Sides.isEmpty}
-use Rattle.model.specs.Places.{Move, endSeen, reading, at1, at2, at3, at4, at5, at6, at7, at9, at10, at11, at12, at13, at14, at15, at16, at17, move}
-use Rattle.model.specs.Places.{stackEmpty}
-use Rattle.model.specs.Route.{leave, pushed, pushRoute, popRoute, route, onward}
-use Rattle.model.proofs.tests.ByPlace.{by-place}
-use Rattle.model.proofs.tests.Truth.{either, by-test}
+use Rattle.word.specs.{declared.Anchor.Anchor, Anchor.anchorOf, Link.linkOf}
+use Rattle.model.specs.{declared.{Control.Control, Call.Call}, Tables.{atPlace, isPooled}, Sound.recordSound}
+use Rattle.model.specs.{Sides.isEmpty, Places.{at13, at14, at15, at16, at17, move, stackEmpty}}
+use Rattle.model.specs.Places.{Move, endSeen, reading, at1, at2, at3, at4, at5, at6, at7, at9, at10, at11, at12}
+use Rattle.model.specs.{Route.{leave, pushed, pushRoute, popRoute, route, onward}, Kinds.{isPush, isPop}}
+use Rattle.model.proofs.tests.{ByPlace.by-place, Truth.{either, by-test}}
 use Rattle.model.proofs.laws.SoundRecord.{implied, Sound, sound-record}
-use Rattle.model.specs.Kinds.{isPush, isPop}
 
 abbrev Leads : ℕ → ℕ → ℕ → Type 0
 Leads place kind outcome = eqb (route place kind outcome) 0 ≡ false

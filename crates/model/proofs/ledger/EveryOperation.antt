@@ -1,7 +1,5 @@
 -- Every operation keeps the ledger matched: a refused one, a start, a step.
-use mathlib.Core.Bool.{Bool, _&&_, cond, false, true}
-use mathlib.Core.List.{List, [], _∷_}
-use mathlib.Core.Logic.{_≢_, _⊎_, inl, inr}
+use mathlib.Core.{Bool.{Bool, _&&_, cond, false, true}, List.{List, [], _∷_}, Logic.{_≢_, _⊎_, inl, inr}}
 use mathlib.Core.Path.{_∙_, _≡_, ap, refl, subst, sym}
 use Prim.Native.Nat.{_≤_, suc, ℕ}
 use native.Mathlib.Omega.{arith}
@@ -9,32 +7,28 @@ use lib.{Dec.eqb, ListN.set}
 use borrow.Author.Tests.{eq-eqb, eqb-true, ne-eqb}
 use Rattle.word.specs.Anchor.{anchorOf}
 use Rattle.model.specs.Calls.{Acted, Done, act, actOn, back, finish, popStart, pushStart, pushPooledStart, step}
-use Rattle.model.specs.{Deque.saysNoFreeSlot, Lists.All}
-use Rattle.model.specs.History.{LedgerCall, Event, Ledger, Request, accept, attend, begins, final, isEffect, ledgerFrom, note, over, run, toldEntry}
-use Rattle.model.specs.Places.{wordFound, move}
+use Rattle.model.specs.{Deque.saysNoFreeSlot, Lists.All, History.{ledgerFrom, over, run, toldEntry}}
+use Rattle.model.specs.History.{LedgerCall, Event, Ledger, Request, accept, attend, begins, final, isEffect, note}
+use Rattle.model.specs.{Places.{wordFound, move}, Tables.withTaken}
 use Rattle.model.specs.Refusals.{among, popRefusal, pushRefusal, pushPooledRefusal, stepRefusal}
-use Rattle.model.specs.Tables.{Queue, asking, isPooled, marked, recordAt, started, taskAt, unused, withCall, withTaken}
-use Rattle.model.specs.declared.Answer.the-variants.{Empty, NoFreeSlot, Popped, Pushed, Running}
-use Rattle.model.specs.declared.{Answer.Answer, Entry.Entry, Op.Op, Call.Call, Record.Record}
-use Rattle.model.specs.declared.Op.the-variants.{Pop, Push, PushPooled, Step}
-use Rattle.model.specs.declared.Outcome.the-variants.{Moved, Refused}
-use Rattle.model.proofs.tests.Truth.{by-test, decide-eq, not-both}
-use Rattle.model.proofs.lists.Store.{set-back}
-use Rattle.model.proofs.machine.{Answers.EndsAt, Machine.upd}
-use Rattle.model.proofs.machine.Book as B
-use Rattle.model.proofs.machine.Laws.{upd-other, upd-same}
-use Rattle.model.proofs.machine.Machine as M
-use Rattle.model.proofs.invariant.Invariant.{Inv}
-use Rattle.model.proofs.bridge.Accepted.{Lies, Stepping, pop-accepted, push-accepted, push-pooled-accepted, step-accepted}
-use Rattle.model.proofs.bridge.{Decoded.seenMove, Facts.LinksFine}
-use Rattle.model.proofs.bridge.Operations.{not-idle, pop-keeps, push-keeps, put-back, put-keeps, reply, step-ends, step-grants, step-lacks}
-use Rattle.model.proofs.bridge.Operations.{step-keeps, step-links, step-pooled, step-task, step-told, stepped, task-of}
+use Rattle.model.specs.Tables.{Queue, asking, isPooled, marked, recordAt, started, taskAt, unused, withCall}
+use Rattle.model.specs.declared.Answer.{the-variants.{Empty, NoFreeSlot, Popped, Pushed, Running}, Answer}
+use Rattle.model.specs.declared.{Entry.Entry, Op.{Op, the-variants.{Pop, Push, PushPooled, Step}}, Call.Call}
+use Rattle.model.specs.declared.{Record.Record, Outcome.the-variants.{Moved, Refused}}
+use Rattle.model.proofs.{tests.Truth.{by-test, decide-eq, not-both}, lists.Store.set-back}
+use Rattle.model.proofs.machine.{Answers.EndsAt, Machine.upd, Laws.{upd-other, upd-same}}
+use Rattle.model.proofs.{invariant.Invariant.Inv, bridge.Operations.{step-pooled, step-told, task-of}}
+use Rattle.model.proofs.bridge.Accepted.{Lies, Stepping, pop-accepted, push-accepted, push-pooled-accepted}
+use Rattle.model.proofs.bridge.{Accepted.step-accepted, Decoded.seenMove, Facts.LinksFine}
+use Rattle.model.proofs.bridge.Operations.{not-idle, pop-keeps, push-keeps, put-back, put-keeps, reply, stepped}
+use Rattle.model.proofs.bridge.Operations.{step-ends, step-grants, step-lacks, step-keeps, step-links, step-task}
 use Rattle.model.proofs.bridge.View.{anchorSeen, answerSeen, kindOf, placeOf, recOf, stateOf, touchSeen, view}
-use Rattle.model.proofs.ledger.Attended.{Attended, attend-keeps, bookAfter, goingOn}
-use Rattle.model.proofs.ledger.Matched.{Matched, busyNo}
-use Rattle.model.proofs.ledger.Matches.{Final, Matches, Names, Tracks, matches-granted, opens, rest-keeps, tracks-mono}
-use Rattle.model.proofs.ledger.Served.{Told, effect-is, no-free-slot-is}
+use Rattle.model.proofs.ledger.{Attended.{Attended, attend-keeps, bookAfter, goingOn}, Matched.{Matched, busyNo}}
+use Rattle.model.proofs.ledger.Matches.{Final, Matches, Names, Tracks, matches-granted, opens, rest-keeps}
+use Rattle.model.proofs.ledger.{Matches.tracks-mono, Served.{Told, effect-is, no-free-slot-is}}
 use Rattle.model.proofs.unsound.Suits.{kind-push}
+use Rattle.model.proofs.machine.Book as B
+use Rattle.model.proofs.machine.Machine as M
 
 goes-on : (a : Answer) (b : Bool) → EndsAt (answerSeen a) b → goingOn a ≡ busyNo b
 goes-on (Running p) b e = rw e

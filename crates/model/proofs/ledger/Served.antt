@@ -1,21 +1,17 @@
 -- The sequential deque of the ledger serves a call as that of the book does.
-use mathlib.Core.Bool.{Bool, cond, false, true}
-use mathlib.Core.List.{List, [], _∷_}
-use mathlib.Core.Path.{_∙_, _≡_, ap, refl, subst, sym}
+use mathlib.Core.{Bool.{Bool, cond, false, true}, List.{List, [], _∷_}, Path.{_∙_, _≡_, ap, refl, subst, sym}}
 use Prim.Native.Nat.{suc, ℕ}
 use native.Mathlib.Omega.{arith}
 use lib.Dec.{eqb}
 use Rattle.model.specs.Deque.{Served, saysNoFreeSlot, serve, serveFor, servePop, servePush, takeFirst}
-use Rattle.model.specs.History.{LedgerCall, Effect, Ending, Event, Ledger, continued, ended, isEffect, lacksSlot, stepOf, toldEntry}
-use Rattle.model.specs.declared.Answer.the-variants.{Empty, NoFreeSlot, Popped, Pushed, Running}
-use Rattle.model.specs.declared.{Answer.Answer, Entry.Entry}
-use Rattle.model.proofs.tests.Truth.{split}
-use Rattle.model.proofs.lists.Deque.{put, rest, seen, took}
-use Rattle.model.proofs.lists.Ends.{seen-nil}
-use Rattle.model.proofs.machine.Book as B
-use Rattle.model.proofs.machine.Machine as M
+use Rattle.model.specs.History.{LedgerCall, Effect, Ending, Event, Ledger, continued, ended, isEffect, lacksSlot}
+use Rattle.model.specs.{History.{stepOf, toldEntry}, declared.Entry.Entry}
+use Rattle.model.specs.declared.Answer.{the-variants.{Empty, NoFreeSlot, Popped, Pushed, Running}, Answer}
+use Rattle.model.proofs.{tests.Truth.split, lists.{Deque.{put, rest, seen, took}, Ends.seen-nil}}
 use Rattle.model.proofs.bridge.View.{anchorSeen, answerSeen}
 use Rattle.model.proofs.ledger.Matches.{Final, Last, Matches, matches-mono}
+use Rattle.model.proofs.machine.Book as B
+use Rattle.model.proofs.machine.Machine as M
 
 pub effect-is : (ev : Event) (a : Answer) → B.effect (anchorSeen (ev .before)) (anchorSeen (ev .after)) (answerSeen a) ≡ isEffect ev a
 unfolding isEffect

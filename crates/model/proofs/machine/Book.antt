@@ -1,13 +1,11 @@
 -- The book beside the decoded machine: the sequential deque, which serves a call at each of its effects, and how many effects each call had.
-use mathlib.Core.Bool.{Bool, _&&_, _||_, cond, false, not, true}
-use mathlib.Core.List.{List, [], _∷_}
-use mathlib.Core.Path.{_≡_}
+use mathlib.Core.{Bool.{Bool, _&&_, _||_, cond, false, not, true}, List.{List, [], _∷_}, Path._≡_}
 use Prim.Native.Nat.{suc, ℕ}
 use lib.Dec.{eqb}
 use Rattle.model.specs.declared.Entry.{Entry}
-use Rattle.model.proofs.lists.Deque.{put, seen, took}
-use Rattle.model.proofs.machine.Machine.{Anchor, Answer, Kind, State, Status, Touch, clear, empty, noFreeSlot, none, pop, popped, push}
-use Rattle.model.proofs.machine.Machine.{pushed, pushing, putAnchor, putHead, putLink, putNext, running, stable, take, upd}
+use Rattle.model.proofs.{lists.Deque.{put, seen, took}, machine.Machine.{putNext, running, stable, take, upd}}
+use Rattle.model.proofs.machine.Machine.{Anchor, Answer, Kind, State, Status, Touch, clear, empty, noFreeSlot}
+use Rattle.model.proofs.machine.Machine.{none, pop, popped, push, pushed, pushing, putAnchor, putHead, putLink}
 
 -- A call: what its start named, the number of its effects so far, and what the sequential deque replied last.
 pub record BookCall : Type 0 where

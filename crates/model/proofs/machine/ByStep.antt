@@ -1,7 +1,5 @@
 -- What holds of each kind of move that a record makes at a place holds of its step.
-use mathlib.Core.Bool.{Bool, false, not, true}
-use mathlib.Core.Logic.{_⊎_, inl, inr}
-use mathlib.Core.Path.{_≡_, ap, refl, sym}
+use mathlib.Core.{Bool.{Bool, false, not, true}, Logic.{_⊎_, inl, inr}, Path.{_≡_, ap, refl, sym}}
 use Prim.Native.Nat.{suc, ℕ}
 use lib.Dec.{eqb}
 use Rattle.model.proofs.tests.Truth.{by-test, not-both}

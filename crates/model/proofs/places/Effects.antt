@@ -1,15 +1,12 @@
 -- Where effects fall, and what the book then notes.
-use mathlib.Core.Bool.{Bool, _&&_, _||_, false, not, true}
-use mathlib.Core.{List.List, Logic._≢_}
-use mathlib.Core.Path.{_∙_, _≡_, ap, refl, sym}
+use mathlib.Core.{Bool.{Bool, _&&_, _||_, false, not, true}, List.List, Logic._≢_, Path.{_∙_, _≡_, ap, refl, sym}}
 use Prim.Native.Nat.{ℕ}
 use lib.Dec.{eqb}
 use borrow.Author.Tests.{eq-eqb, ne-eqb}
 use Rattle.model.specs.declared.Entry.{Entry}
-use Rattle.model.proofs.tests.Truth.{or-second}
-use Rattle.model.proofs.lists.Deque.{put, seen, took}
+use Rattle.model.proofs.{tests.Truth.or-second, lists.Deque.{put, seen, took}, machine.Machine.pushed}
 use Rattle.model.proofs.machine.Book.{BookCall, effect, given, isNoFreeSlot, noted, served, told, unmoving}
-use Rattle.model.proofs.machine.Machine.{Anchor, Answer, Kind, Status, aimed, empty, noFreeSlot, pop, push, pushed, tip}
+use Rattle.model.proofs.machine.Machine.{Anchor, Answer, Kind, Status, aimed, empty, noFreeSlot, pop, push, tip}
 use Rattle.model.proofs.invariant.Tasks.{Agrees}
 
 pub noted-false : (c : BookCall) (q : List Entry) (a b : Anchor) (w : Answer) → effect a b w ≡ false → noted c q a b w ≡ record { call = c; queue = q }

@@ -1,19 +1,13 @@
 -- *No slot* is true: where the head names none, every slot is in the queue, or a push's before its effect, or a pop's after it.
 -- (Line 15. A program that loses slots, or answers *no slot* at will, is linearizable all the same.)
-use mathlib.Core.Bool.{Bool, false, true}
-use mathlib.Core.Logic.{_≢_, _⊎_, inl, inr}
-use mathlib.Core.Path.{_∙_, _≡_, refl, subst, sym}
+use mathlib.Core.{Bool.{Bool, false, true}, Logic.{_≢_, _⊎_, inl, inr}, Path.{_∙_, _≡_, refl, subst, sym}}
 use Prim.Native.Nat.{_≤_, ℕ}
-use Rattle.model.proofs.tests.Truth.{not-both}
-use Rattle.model.proofs.lists.{In.In, Slots.slots}
-use Rattle.model.proofs.machine.Book.{Both, BookCall, isNoFreeSlot}
-use Rattle.model.proofs.machine.Machine.{Kind, Move, Phase, Place, Rec, Shared, act, at1, at10, at11, at2, at3, at4, at5, at6, at7, at8, at9}
-use Rattle.model.proofs.machine.Machine.{draw, fetching, give, idle, inside, leaving, outside, phase, pop, push, returning, tip}
-use Rattle.model.proofs.machine.{ByStep.by-step, Laws.exhausted-true}
-use Rattle.model.proofs.invariant.Invariant.{Inv}
-use Rattle.model.proofs.invariant.Owners.{Owner, Pool, Spare, free, held, queued}
-use Rattle.model.proofs.invariant.Tasks.{Own, Stage, Task}
-use Rattle.model.proofs.places.Stack.{none-free}
+use Rattle.model.proofs.{tests.Truth.not-both, lists.{In.In, Slots.slots}, invariant.Tasks.{Own, Stage, Task}}
+use Rattle.model.proofs.machine.{Book.{Both, BookCall, isNoFreeSlot}, ByStep.by-step, Laws.exhausted-true}
+use Rattle.model.proofs.machine.Machine.{Kind, Move, Phase, Place, Rec, Shared, act, at1, at10, at11, at2, at3}
+use Rattle.model.proofs.machine.Machine.{at4, at5, at6, at7, at8, at9, draw, fetching, give, idle, inside, phase}
+use Rattle.model.proofs.{machine.Machine.{leaving, outside, pop, push, returning, tip}, places.Stack.none-free}
+use Rattle.model.proofs.invariant.{Invariant.Inv, Owners.{Owner, Pool, Spare, free, held, queued}}
 
 -- A push at 1 to 10 that is not finishing.
 abbrev pub Pushes : Rec → ℕ → Type 0

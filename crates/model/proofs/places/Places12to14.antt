@@ -1,22 +1,16 @@
 -- Places 12 to 14: a push draws its slot from the stack. *No slot* is an effect without a change of the queue.
-use mathlib.Core.{Bool.true, List.List}
-use mathlib.Core.Logic.{inl, inr}
-use mathlib.Core.Path.{_≡_, ap, refl, subst, sym}
+use mathlib.Core.{Bool.true, List.List, Logic.{inl, inr}, Path.{_≡_, ap, refl, subst, sym}}
 use Prim.Native.Nat.{_<_, suc, ℕ}
 use native.Mathlib.Omega.{arith}
 use Rattle.model.specs.declared.Entry.{Entry}
-use Rattle.model.proofs.tests.Truth.{by-test, not-both}
-use Rattle.model.proofs.machine.Book.{BookCall, told}
-use Rattle.model.proofs.machine.Laws.{exhausted-false, sameLink-true, upd-same}
-use Rattle.model.proofs.machine.Machine.{Draw, Link, Rec, Shared, at1, at12, at13, at14, draw, draws, ends, noFreeSlot, none, owns, push, running}
-use Rattle.model.proofs.machine.Machine.{runs, sameLink, take, upd, exhausted}
-use Rattle.model.proofs.invariant.Owners.{Owner, Pool, Spare, Intact, held}
+use Rattle.model.proofs.{tests.Truth.{by-test, not-both}, invariant.Owners.{Owner, Pool, Spare, Intact, held}}
+use Rattle.model.proofs.machine.{Book.{BookCall, told}, Laws.{exhausted-false, sameLink-true, upd-same}}
+use Rattle.model.proofs.machine.Machine.{Draw, Link, Rec, Shared, at1, at12, at13, at14, draw, draws, ends, none}
+use Rattle.model.proofs.machine.Machine.{noFreeSlot, owns, push, running, runs, sameLink, take, upd, exhausted}
 use Rattle.model.proofs.invariant.Tasks.{Fourteenth, Own, Task, At13}
-use Rattle.model.proofs.places.Effects.{no-effect, noted-none}
-use Rattle.model.proofs.places.Marking.{marked-kept}
+use Rattle.model.proofs.places.{Effects.{no-effect, noted-none}, Marking.marked-kept, Stack.{drawn, top-free}}
 use Rattle.model.proofs.places.Owning.{gets-marks, gets-rely, gets-sole, gets-whole}
 use Rattle.model.proofs.places.Shown.{Shown, effective, plain, rely-refl, still}
-use Rattle.model.proofs.places.Stack.{drawn, top-free}
 
 module _ (t : ℕ) (s : Shared) (h : ℕ → Owner) (q : List Entry) (c : BookCall) (all : Intact s h q) (r : Rec) where
   -- The next is read from the head's slot, or from one that is past.

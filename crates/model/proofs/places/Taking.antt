@@ -1,29 +1,21 @@
 -- A change of Anchor that is an effect: a push puts its slot into the queue, a pop takes the slot at its end.
-use mathlib.Core.Bool.{Bool, false, not, true}
-use mathlib.Core.List.{List, [], _∷_}
-use mathlib.Core.Logic.{_≢_, _⊎_, inl, inr}
+use mathlib.Core.{Bool.{Bool, false, not, true}, List.{List, [], _∷_}, Logic.{_≢_, _⊎_, inl, inr}}
 use mathlib.Core.Path.{_∙_, _≡_, ap, refl, subst, sym}
 use Prim.Native.Nat.{_<_, suc, ℕ}
-use Rattle.model.specs.declared.Entry.{Entry}
-use Rattle.model.proofs.tests.Truth.{decide-eq}
-use Rattle.model.proofs.lists.All.{all-both, all-map, all-rest, all-seen}
-use Rattle.model.proofs.lists.Chain.{distinct-seen}
-use Rattle.model.proofs.lists.Deque.{Distinct, front, put, rest, seen, took}
-use Rattle.model.proofs.lists.In.{In, in-put, in-took}
-use Rattle.model.proofs.lists.Slots.{map-seen, slots, slots-put, slots-took}
+use Rattle.model.specs.{declared.Entry.Entry, Lists.All}
+use Rattle.model.proofs.{tests.Truth.decide-eq, lists.Slots.{map-seen, slots, slots-put, slots-took}}
+use Rattle.model.proofs.lists.{All.{all-both, all-map, all-rest, all-seen}, Chain.distinct-seen}
+use Rattle.model.proofs.lists.{Deque.{Distinct, front, put, rest, seen, took}, In.{In, in-put, in-took}}
 use Rattle.model.proofs.machine.Book.{BookCall, effect, given, granted, isNoFreeSlot, noted, told}
-use Rattle.model.proofs.machine.Laws.{stable-pushing, upd-other, upd-same}
-use Rattle.model.proofs.machine.Machine.{Anchor, Move, Rec, Shared, Touch, apply, at1, at11, goes, isGiving, none, pop, popped, push, pushed}
-use Rattle.model.proofs.machine.Machine.{pushing, putAnchor, running, runs, stable, tip, upd, withAnchor}
-use Rattle.model.proofs.invariant.Owners.{Owner, Intact, free, held, queued, shows}
-use Rattle.model.proofs.invariant.Rely.{Rely}
-use Rattle.model.proofs.invariant.Shape.{Made, Shape}
-use Rattle.model.proofs.invariant.Tasks.{Bare, Before, Own, Sole}
-use Rattle.model.proofs.places.Effects.{noted-pop, noted-push}
-use Rattle.model.proofs.places.Marking.{marked-at, shows-own}
-use Rattle.model.proofs.places.Owned.{held-free, held-inj, owner-back, owner-bounds, owner-kept, owner-spare, push-pop, queued-free, queued-held}
+use Rattle.model.proofs.machine.{Laws.{stable-pushing, upd-other, upd-same}, Machine.{tip, upd, withAnchor}}
+use Rattle.model.proofs.machine.Machine.{Anchor, Move, Rec, Shared, Touch, apply, at1, at11, goes, isGiving, pop}
+use Rattle.model.proofs.machine.Machine.{none, popped, push, pushed, pushing, putAnchor, running, runs, stable}
+use Rattle.model.proofs.invariant.{Owners.{Owner, Intact, free, held, queued, shows}, Rely.Rely}
+use Rattle.model.proofs.invariant.{Shape.{Made, Shape}, Tasks.{Bare, Before, Own, Sole}}
+use Rattle.model.proofs.places.{Effects.{noted-pop, noted-push}, Marking.{marked-at, shows-own}}
+use Rattle.model.proofs.places.Owned.{held-free, held-inj, owner-back, owner-bounds, owner-kept, owner-spare}
+use Rattle.model.proofs.places.Owned.{push-pop, queued-free, queued-held}
 use Rattle.model.proofs.places.Shown.{Finish, Shown, effective, rely-turn, still}
-use Rattle.model.specs.Lists.{All}
 
 module _ {s : Shared} {h : ℕ → Owner} {q : List Entry} (all : Intact s h q) where
   stable-made : s .anchor .status ≡ stable → (e : Bool) → s .anchor .status ≡ pushing e → Made (s .link) (s .anchor) e

@@ -1,24 +1,20 @@
 -- A task stepped alone: what it owes falls at each of its steps, its effect among them, and is at most 18 for a push and 13 for a pop, in a
 -- pooled queue 21 and 16.
-use mathlib.Core.Bool.{Bool, _&&_, cond, false, true}
-use mathlib.Core.List.{List}
-use mathlib.Core.Logic.{_⊎_, inl, inr}
+use mathlib.Core.{Bool.{Bool, _&&_, cond, false, true}, List.List, Logic.{_⊎_, inl, inr}}
 use mathlib.Core.Path.{_≡_, ap, refl, subst, sym}
 use Prim.Native.Nat.{_+_, _<_, _≤_, suc, ℕ}
 use native.Mathlib.Omega.{arith}
 use Rattle.model.specs.declared.Entry.{Entry}
-use Rattle.model.proofs.tests.Truth.{by-test, not-both}
-use Rattle.model.proofs.machine.{Book.BookCall, Laws.sameLink-true}
-use Rattle.model.proofs.machine.Machine.{Kind, Link, Move, Place, Rec, Shared, act, at1, at10, at11, at12, at13, at14, at15, at16, at17, at2}
-use Rattle.model.proofs.machine.Machine.{at3, at4, at5, at6, at7, at8, at9, draw, four, give, goes, idle, isIdle, isStable, pop, push, putLink}
-use Rattle.model.proofs.machine.Machine.{runs, same, sameLink, tip, two}
-use Rattle.model.proofs.invariant.Owners.{Owner, Intact}
-use Rattle.model.proofs.invariant.Tasks.{Grown, Live, Task, way}
-use Rattle.model.proofs.progress.Bounds.{owed-within}
-use Rattle.model.proofs.progress.Falls.{Falls, drop, fall1, fall10-done, fall10-failed, fall11, fall12, fall13, fall14-done, fall14-failed, fall15}
-use Rattle.model.proofs.progress.Falls.{fall16, fall17-failed, fall2-failed, fall3, fall4-failed, fall5, fall6, fall7, fall8, fall9-done}
-use Rattle.model.proofs.progress.Falls.{fall9-failed, popped-running, pushed-running}
-use Rattle.model.proofs.progress.Measure.{home, owed, owedAt}
+use Rattle.model.proofs.{tests.Truth.{by-test, not-both}, progress.Measure.{home, owed, owedAt}}
+use Rattle.model.proofs.machine.{Book.BookCall, Laws.sameLink-true, Machine.{same, sameLink, two}}
+use Rattle.model.proofs.machine.Machine.{Kind, Link, Move, Place, Rec, Shared, act, at1, at10, at11, at12, at13}
+use Rattle.model.proofs.machine.Machine.{at14, at15, at16, at17, at2, at3, at4, at5, at6, at7, at8, at9, draw}
+use Rattle.model.proofs.machine.Machine.{four, give, goes, idle, isIdle, isStable, pop, push, putLink, runs, tip}
+use Rattle.model.proofs.invariant.{Owners.{Owner, Intact}, Tasks.{Grown, Live, Task, way}}
+use Rattle.model.proofs.progress.{Bounds.owed-within, Falls.{fall9-failed, popped-running, pushed-running}}
+use Rattle.model.proofs.progress.Falls.{Falls, drop, fall1, fall10-done, fall10-failed, fall11, fall12, fall13}
+use Rattle.model.proofs.progress.Falls.{fall14-done, fall14-failed, fall15, fall16, fall17-failed, fall2-failed}
+use Rattle.model.proofs.progress.Falls.{fall3, fall4-failed, fall5, fall6, fall7, fall8, fall9-done}
 
 -- From a change at 2 or 4 on: a push makes that one and, at 5 to 10, six more at the most; a pop that one and 11, in a pooled queue 15 to 17 too.
 abbrev pub spend : Bool → Kind → ℕ

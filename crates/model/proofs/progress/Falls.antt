@@ -1,25 +1,21 @@
 -- A step that answers running brings its own task nearer: what the task owes falls. Place by place; what a change of Anchor at 2 or 4
 -- leaves is for the two bounds to say.
-use mathlib.Core.Bool.{Bool, _&&_, cond, false, true}
-use mathlib.Core.List.{List}
-use mathlib.Core.Logic.{_⊎_, inl, inr}
+use mathlib.Core.{Bool.{Bool, _&&_, cond, false, true}, List.List, Logic.{_⊎_, inl, inr}}
 use mathlib.Core.Path.{_∙_, _≡_, ap, refl, subst, sym}
 use Prim.Native.Nat.{_+_, _<_, _≤_, ℕ}
 use native.Mathlib.Omega.{arith}
 use lib.Dec.{eqb, ltb}
 use borrow.Author.Tests.{eqb-true, lt-ltb, ltb-true}
 use Rattle.model.specs.declared.Entry.{Entry}
-use Rattle.model.proofs.tests.Truth.{and-of, and-true, by-test, not-both}
-use Rattle.model.proofs.lists.Slots.{slots}
-use Rattle.model.proofs.machine.Laws.{same-refl, sameLink-refl}
-use Rattle.model.proofs.machine.Machine.{Anchor, Kind, Link, Move, Place, Rec, Shared, act, apply, at1, at10, at11, at12, at13, at14, at15}
-use Rattle.model.proofs.machine.Machine.{at16, at17, at2, at3, at4, at5, at6, at7, at8, at9, clear, draw, empty, exhausted, give, goes, isStable, leave}
-use Rattle.model.proofs.machine.Machine.{noFreeSlot, none, one, owns, pop, popped, push, pushed, putAnchor, putLink, raised, reads, running, runs}
-use Rattle.model.proofs.machine.Machine.{same, sameLink, settled, take, three, tip, towards}
-use Rattle.model.proofs.invariant.Owners.{Owner, Intact}
-use Rattle.model.proofs.invariant.Tasks.{Fresh, Grown, Live, At9, way}
-use Rattle.model.proofs.chain.Ends.{alike-stable, both-null}
-use Rattle.model.proofs.progress.Measure.{home, outgrown, owed, owedAt}
+use Rattle.model.proofs.{tests.Truth.{and-of, and-true, by-test, not-both}, lists.Slots.slots}
+use Rattle.model.proofs.machine.{Laws.{same-refl, sameLink-refl}, Machine.{tip, towards}}
+use Rattle.model.proofs.machine.Machine.{Anchor, Kind, Link, Move, Place, Rec, Shared, act, apply, at1, at10}
+use Rattle.model.proofs.machine.Machine.{at11, at12, at13, at14, at15, at16, at17, at2, at3, at4, at5, at6, at7}
+use Rattle.model.proofs.machine.Machine.{at8, at9, clear, draw, empty, exhausted, give, goes, isStable, leave}
+use Rattle.model.proofs.machine.Machine.{noFreeSlot, none, one, owns, pop, popped, push, pushed, putAnchor, runs}
+use Rattle.model.proofs.machine.Machine.{putLink, raised, reads, running, same, sameLink, settled, take, three}
+use Rattle.model.proofs.invariant.{Owners.{Owner, Intact}, Tasks.{Fresh, Grown, Live, At9, way}}
+use Rattle.model.proofs.{chain.Ends.{alike-stable, both-null}, progress.Measure.{home, outgrown, owed, owedAt}}
 
 -- Two branches on one test, compared arm by arm.
 pub drop : (b : Bool) {x′ y′ x y : ℕ} → (b ≡ true → x′ < x) → (b ≡ false → y′ < y) → cond b x′ y′ < cond b x y

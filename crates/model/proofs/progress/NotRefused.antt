@@ -1,26 +1,18 @@
 -- After an opening the tables stay long enough, so no step of a busy task is refused.
-use mathlib.Core.Bool.{Bool, _&&_, _||_, cond, not, true}
-use mathlib.Core.Path.{_∙_, _≡_, ap, refl, sym}
+use mathlib.Core.{Bool.{Bool, _&&_, _||_, cond, not, true}, Path.{_∙_, _≡_, ap, refl, sym}}
 use Prim.Native.Nat.{_/_, _≤_, ℕ}
 use native.Mathlib.Omega.{arith}
-use lib.Dec.{eqb, ltb}
-use lib.ListN.{length}
+use lib.{Dec.{eqb, ltb}, ListN.length}
 use borrow.Author.Tests.{eq-eqb, le-leb, leb-true, lt-ltb, ltb-true, ne-eqb, not-false}
-use Rattle.model.specs.Calls.{act, openAs, opened}
-use Rattle.model.specs.{History.Ledger, Progress.Busy}
+use Rattle.model.specs.{Calls.{act, openAs, opened}, History.Ledger, Progress.Busy, Sound.{rowTests, rowsFit}}
 use Rattle.model.specs.Refusals.{among, openRefusal, openRules, recordsFit, stepRefusal}
-use Rattle.model.specs.Sound.{rowTests, rowsFit}
-use Rattle.model.specs.Tables.{Queue, Tables, isPooled, recordAt}
-use Rattle.model.specs.declared.{Op.Op, Call.Call}
-use Rattle.model.proofs.tests.Rules.{_and_, cleared, passes, tests}
+use Rattle.model.specs.{Tables.{Queue, Tables, isPooled, recordAt}, declared.{Op.Op, Call.Call}}
+use Rattle.model.proofs.{tests.Rules.{_and_, cleared, passes, tests}, ledger.{Matched.Matched, Opened.flag}}
 use Rattle.model.proofs.tests.Truth.{and-of, and-true, or-first, or-right, or-second, split}
 use Rattle.model.proofs.laws.Sizes.{act-pooled, act-slots, act-tasks}
 use Rattle.model.proofs.laws.Lengths.{Lengths, SameLengths, act-lengths, open-lengths}
-use Rattle.model.proofs.bridge.Accepted.{Lies}
-use Rattle.model.proofs.bridge.Facts.{RowsFine, from1-true}
-use Rattle.model.proofs.ledger.{Matched.Matched, Opened.flag}
-use Rattle.model.proofs.unsound.Safe.{Safe}
-use Rattle.model.proofs.unsound.StepSound.{own-sound, step-sound}
+use Rattle.model.proofs.bridge.{Accepted.Lies, Facts.{RowsFine, from1-true}}
+use Rattle.model.proofs.unsound.{Safe.Safe, StepSound.{own-sound, step-sound}}
 
 -- As many tasks and slots as were opened, in the way that was asked for, and tables long enough for them.
 pub record Roomy (pooled : Bool) (tasks : ℕ) (q : Queue) : Type 0 where

@@ -1,31 +1,28 @@
 -- All tasks together: at a step with no effect and no answer what its task owes falls, and what any other owes does not rise; or the task
 -- draws its slot, and nobody whom that sends back owes more than 3 more.
-use mathlib.Core.Bool.{Bool, false, not, true}
-use mathlib.Core.List.{List}
-use mathlib.Core.Logic.{_⊎_, inl, inr}
+use mathlib.Core.{Bool.{Bool, false, not, true}, List.List, Logic.{_⊎_, inl, inr}}
 use mathlib.Core.Path.{_∙_, _≡_, ap, refl, subst, sym}
 use Prim.Native.Nat.{_*_, _+_, _<_, _≤_, suc, ℕ}
 use native.Mathlib.Omega.{arith}
 use lib.Dec.{eqb}
 use Rattle.model.specs.declared.Entry.{Entry}
-use Rattle.model.proofs.tests.Truth.{by-test, not-both, either}
-use Rattle.model.proofs.machine.Book.{BookCall, Noted, effect, noted}
-use Rattle.model.proofs.machine.Laws.{same-true, sameLink-true}
-use Rattle.model.proofs.machine.Machine.{Anchor, Kind, Link, Move, Place, Rec, Shared, Touch, act, aimed, apply, at1, at10, at11, at12, at13}
-use Rattle.model.proofs.machine.Machine.{at14, at15, at16, at17, at2, at3, at4, at5, at6, at7, at8, at9, both, draw, exhausted, finishes, four}
-use Rattle.model.proofs.machine.Machine.{give, goes, idle, isIdle, isStable, leave, none, one, ownLink, pop, push, pushing, putAnchor, putLink}
-use Rattle.model.proofs.machine.Machine.{raised, running, runs, same, sameLink, settled, three, tip, towards, two, withLink}
-use Rattle.model.proofs.invariant.Owners.{Owner, Intact}
-use Rattle.model.proofs.invariant.Rely.{Quiet, Turned}
-use Rattle.model.proofs.invariant.Shape.{Made}
-use Rattle.model.proofs.invariant.Tasks.{Grown, Live, Task, way}
-use Rattle.model.proofs.places.{Effects.noted-false, Place2.place2, Place3.place3, Place4.place4, Place9.place9, Shown.Shown}
-use Rattle.model.proofs.progress.Falls.{Falls, empty-running, fall1, fall10-done, fall10-failed, fall11, fall12, fall13, fall14-done, fall14-failed}
-use Rattle.model.proofs.progress.Falls.{fall15, fall16, fall17-failed, fall2-failed, fall3, fall4-failed, fall5, fall6, fall7, fall8, fall9-done}
+use Rattle.model.proofs.{tests.Truth.{by-test, not-both, either}, invariant.Shape.Made, places.Place9.place9}
+use Rattle.model.proofs.invariant.{Tasks.{Grown, Live, Task, way}, Owners.{Owner, Intact}, Rely.{Quiet, Turned}}
+use Rattle.model.proofs.machine.{Book.{BookCall, Noted, effect, noted}, Laws.{same-true, sameLink-true}}
+use Rattle.model.proofs.machine.Machine.{Anchor, Kind, Link, Move, Place, Rec, Shared, Touch, act, aimed, apply}
+use Rattle.model.proofs.machine.Machine.{at1, at10, at11, at12, at13, at14, at15, at16, at17, at2, at3, at4, at5}
+use Rattle.model.proofs.machine.Machine.{at6, at7, at8, at9, both, draw, exhausted, finishes, four, give, goes}
+use Rattle.model.proofs.machine.Machine.{idle, isIdle, isStable, leave, none, one, ownLink, pop, push, pushing}
+use Rattle.model.proofs.machine.Machine.{putAnchor, putLink, raised, running, runs, same, sameLink, settled, tip}
+use Rattle.model.proofs.machine.Machine.{three, towards, two, withLink}
+use Rattle.model.proofs.places.{Shown.Shown, Effects.noted-false, Place2.place2, Place3.place3, Place4.place4}
+use Rattle.model.proofs.progress.Falls.{Falls, empty-running, fall1, fall10-done, fall10-failed, fall11, fall12}
+use Rattle.model.proofs.progress.Falls.{fall13, fall14-done, fall14-failed, fall15, fall16, fall17-failed, fall3}
+use Rattle.model.proofs.progress.Falls.{fall2-failed, fall4-failed, fall5, fall6, fall7, fall8, fall9-done}
 use Rattle.model.proofs.progress.Falls.{fall9-failed, none-running, popped-running, pushed-running}
-use Rattle.model.proofs.progress.Measure.{owed, owedAt}
-use Rattle.model.proofs.progress.Others.{heads}
-use Rattle.model.proofs.progress.Scale.{back-le, drawn-le, link-le, owed-scale, scale, scale-made, scale-some, scale-unmade, settled-le, together}
+use Rattle.model.proofs.progress.{Measure.{owed, owedAt}, Others.heads}
+use Rattle.model.proofs.progress.Scale.{back-le, drawn-le, link-le, owed-scale, scale, scale-made, scale-some}
+use Rattle.model.proofs.progress.Scale.{scale-unmade, settled-le, together}
 
 -- Neither an effect nor an answer.
 abbrev pub Silent : Shared → Move → Type 0

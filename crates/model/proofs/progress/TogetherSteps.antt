@@ -1,40 +1,31 @@
 -- The same of the tables: an operation with no effect and no answer lets the sum of what all tasks owe fall by one at a step, and never rise.
-use mathlib.Core.Bool.{Bool, cond, false, true}
-use mathlib.Core.List.{List, [], _∷_}
-use mathlib.Core.Logic.{_⊎_, inl, inr}
+use mathlib.Core.{Bool.{Bool, cond, false, true}, List.{List, [], _∷_}, Logic.{_⊎_, inl, inr}}
 use mathlib.Core.Path.{_∙_, _≡_, ap, refl, subst, sym}
 use Prim.Native.Nat.{_*_, _+_, _<_, _≤_, suc, ℕ}
 use native.Mathlib.Omega.{arith}
 use lib.{Dec.eqb, ListN.set}
 use borrow.Author.Tests.{eqb-true}
 use Rattle.model.specs.Calls.{Acted, Done, act, actOn, back, finish, popStart, pushStart, pushPooledStart, step}
-use Rattle.model.specs.History.{Event, Ledger, Request, isEffect, run}
-use Rattle.model.specs.Places.{wordFound, move}
-use Rattle.model.specs.Ends.{answerEnds}
-use Rattle.model.specs.Progress.{any, pairs, stepping, steps, stretchLimit, tookEffectOrAnswered, tookEffectOrAnsweredBy}
+use Rattle.model.specs.{History.{Event, Ledger, Request, isEffect, run}, Places.{wordFound, move}}
+use Rattle.model.specs.{Ends.answerEnds, Progress.tookEffectOrAnswered, Tables.{taskAt, unused}}
+use Rattle.model.specs.Progress.{tookEffectOrAnsweredBy, any, pairs, stepping, steps, stretchLimit}
+use Rattle.model.specs.Tables.{withCall, withTaken, Queue, Tables, asking, isPooled, recordAt, started, tablesOf}
 use Rattle.model.specs.Refusals.{among, popRefusal, pushRefusal, pushPooledRefusal, stepRefusal}
-use Rattle.model.specs.Tables.{Queue, Tables, asking, isPooled, recordAt, started, tablesOf, taskAt, unused, withCall, withTaken}
-use Rattle.model.specs.declared.Answer.the-variants.{Empty, NoFreeSlot, Popped, Pushed, Running}
-use Rattle.model.specs.declared.{Answer.Answer, Op.Op, Call.Call, Record.Record}
-use Rattle.model.specs.declared.Op.the-variants.{Pop, Push, PushPooled, Step}
+use Rattle.model.specs.declared.Answer.{the-variants.{Empty, NoFreeSlot, Popped, Pushed, Running}, Answer}
+use Rattle.model.specs.declared.{Op.{Op, the-variants.{Pop, Push, PushPooled, Step}}, Call.Call, Record.Record}
 use Rattle.model.specs.declared.Outcome.the-variants.{Moved, Refused}
-use Rattle.model.proofs.tests.Truth.{by-test, either, not-both, or-false, split}
-use Rattle.model.proofs.lists.Store.{set-back}
-use Rattle.model.proofs.machine.{Book.effect, Machine.upd}
-use Rattle.model.proofs.machine.Machine as M
-use Rattle.model.proofs.invariant.Tasks.{Task}
-use Rattle.model.proofs.bridge.Accepted.{Lies, Stepping, pop-accepted, push-accepted, push-pooled-accepted, step-accepted}
-use Rattle.model.proofs.bridge.{Decoded.seenMove, EveryPlace.step-seen}
+use Rattle.model.proofs.{tests.Truth.{by-test, either, not-both, or-false, split}, lists.Store.set-back}
+use Rattle.model.proofs.{machine.{Book.effect, Machine.upd}, invariant.Tasks.Task, tags.Sum.total-le}
+use Rattle.model.proofs.bridge.Accepted.{Lies, Stepping, pop-accepted, push-accepted, push-pooled-accepted}
+use Rattle.model.proofs.bridge.{Accepted.step-accepted, Decoded.seenMove, EveryPlace.step-seen}
 use Rattle.model.proofs.bridge.Operations.{not-idle, put-back, reply, state-is, stepped, task-of}
 use Rattle.model.proofs.bridge.View.{answerSeen, placeOf, recOf, stateOf, view}
-use Rattle.model.proofs.ledger.{Matched.Matched, Served.effect-is}
-use Rattle.model.proofs.tags.Sum.{total-le}
+use Rattle.model.proofs.{ledger.{Matched.Matched, Served.effect-is}, progress.Others.{heads, heads-most, keep}}
+use Rattle.model.proofs.progress.{Reached.{Reached, act-reached}, Measure.owedAt, Bounds.owed-within}
 use Rattle.model.proofs.progress.AllOwed.{all, all-drawn, all-drop, all-keep, atHead, pairs-up}
-use Rattle.model.proofs.progress.{Bounds.owed-within, Measure.owedAt}
-use Rattle.model.proofs.progress.Others.{heads, heads-most, keep}
-use Rattle.model.proofs.progress.Reached.{Reached, act-reached}
 use Rattle.model.proofs.progress.Scale.{scale, scale-most, scale-some, together}
 use Rattle.model.proofs.progress.Together.{SilentFalls, Drawn, Silent, silent-falls}
+use Rattle.model.proofs.machine.Machine as M
 
 -- A step that tells nothing is silent.
 runs-on : (a : Answer) → answerEnds a ≡ false → answerSeen a ≡ M.running

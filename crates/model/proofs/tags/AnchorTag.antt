@@ -1,15 +1,12 @@
 -- Anchor's tag and the changes of it that are still to come never grow together; a start at a tag up to 4,294,967,262 has room for all.
-use mathlib.Core.Bool.{Bool, cond, false, true}
-use mathlib.Core.Path.{_∙_, _≡_, ap, refl}
+use mathlib.Core.{Bool.{Bool, cond, false, true}, Path.{_∙_, _≡_, ap, refl}}
 use Prim.Native.Nat.{_*_, _+_, _<_, _≤_, suc, ℕ}
 use native.Mathlib.Omega.{arith}
-use Rattle.model.proofs.tests.Truth.{by-test}
-use Rattle.model.proofs.machine.{Book.BookCall, Laws.same-true, ByStep.by-step}
-use Rattle.model.proofs.machine.Machine.{Anchor, Kind, Move, Phase, Place, Rec, Shared, Status, act, aimed, apply, at10, at14, at2, at3}
-use Rattle.model.proofs.machine.Machine.{at4, at9, draw, inside, phase, pop, push, pushing, same, stable, upd}
-use Rattle.model.proofs.invariant.Owners.{Owner}
-use Rattle.model.proofs.invariant.Tags.{cost, owes, spent, unsettled, weight}
-use Rattle.model.proofs.invariant.Tasks.{Task, Three}
+use Rattle.model.proofs.{tests.Truth.by-test, invariant.Tasks.{Task, Three}}
+use Rattle.model.proofs.machine.{Book.BookCall, Laws.same-true, ByStep.by-step, Machine.{pushing, stable, upd}}
+use Rattle.model.proofs.machine.Machine.{Anchor, Kind, Move, Phase, Place, Rec, Shared, Status, act, aimed, at10}
+use Rattle.model.proofs.machine.Machine.{apply, at14, at2, at3, at4, at9, draw, inside, phase, pop, push, same}
+use Rattle.model.proofs.invariant.{Owners.Owner, Tags.{cost, owes, spent, unsettled, weight}}
 use Rattle.model.proofs.tags.Sum.{total, total-at, total-le}
 
 pub record WeightKept (s : Shared) (r : Rec) (m : Move) : Type 0 where

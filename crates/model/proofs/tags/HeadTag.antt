@@ -1,18 +1,14 @@
 -- The head's tag never passes Anchor's by more than the tasks' shares, so it has room whenever Anchor's has. (Line 17.)
 -- Line 17 stands at every change of the head: at 14 a push has its slot now, at 17 a pop has none any more.
-use mathlib.Core.Bool.{Bool, cond, false, true}
-use mathlib.Core.Logic.{_≢_, _⊎_, inl, inr}
-use mathlib.Core.Path.{_∙_, _≡_, ap, refl}
+use mathlib.Core.{Bool.{Bool, cond, false, true}, Logic.{_≢_, _⊎_, inl, inr}, Path.{_∙_, _≡_, ap, refl}}
 use Prim.Native.Nat.{_+_, _<_, _≤_, suc, zero, ℕ}
 use native.Mathlib.Omega.{arith}
-use Rattle.model.proofs.tests.Truth.{decide-eq, either}
-use Rattle.model.proofs.machine.{Book.BookCall, ByStep.by-step}
-use Rattle.model.proofs.machine.Laws.{aimed-tag, same-true, sameLink-true}
-use Rattle.model.proofs.machine.Machine.{Anchor, Kind, Link, Move, Phase, Place, Rec, Shared, act, apply, at10, at11, at12, at14, at16}
-use Rattle.model.proofs.machine.Machine.{at17, at2, at3, at4, at9, draw, fetching, give, idle, inside, leaving, outside, phase, pop, push}
-use Rattle.model.proofs.machine.Machine.{pushing, returning, same, sameLink, upd}
-use Rattle.model.proofs.invariant.{Owners.Owner, Tasks.Task}
-use Rattle.model.proofs.invariant.Tags.{claims, cost, owes, share, shares, spent}
+use Rattle.model.proofs.{tests.Truth.{decide-eq, either}, machine.Machine.{same, sameLink, upd}}
+use Rattle.model.proofs.machine.{Book.BookCall, ByStep.by-step, Laws.{aimed-tag, same-true, sameLink-true}}
+use Rattle.model.proofs.machine.Machine.{Anchor, Kind, Link, Move, Phase, Place, Rec, Shared, act, apply, at10}
+use Rattle.model.proofs.machine.Machine.{at11, at12, at14, at16, at17, at2, at3, at4, at9, draw, fetching, give}
+use Rattle.model.proofs.machine.Machine.{idle, inside, leaving, outside, phase, pop, push, pushing, returning}
+use Rattle.model.proofs.invariant.{Owners.Owner, Tasks.Task, Tags.{claims, cost, owes, share, shares, spent}}
 use Rattle.model.proofs.tags.Sum.{total, total-at}
 
 -- A step raises the head's tag and the task's share by no more than Anchor's tag.

@@ -1,20 +1,14 @@
 -- What else holds of a record is kept by its own step; others' records keep it unchanged.
-use mathlib.Core.Bool.{Bool, false, true}
-use mathlib.Core.List.{List}
-use mathlib.Core.Logic.{_≢_, _⊎_, inl, inr}
+use mathlib.Core.{Bool.{Bool, false, true}, List.List, Logic.{_≢_, _⊎_, inl, inr}}
 use mathlib.Core.Path.{_∙_, _≡_, ap, refl, subst, sym}
 use Prim.Native.Nat.{ℕ}
 use Rattle.model.specs.declared.Entry.{Entry}
-use Rattle.model.proofs.tests.Truth.{not-both}
-use Rattle.model.proofs.lists.Slots.{slots}
-use Rattle.model.proofs.machine.{Book.BookCall, Laws.same-true, ByStep.by-step}
-use Rattle.model.proofs.machine.Machine.{Anchor, Link, Move, Phase, Place, Rec, Shared, act, at6, beside, fetching, inner, inside, isIdle}
-use Rattle.model.proofs.machine.Machine.{leaving, outside, phase, pop, pushing, reaches, returning, same, takes, tip}
-use Rattle.model.proofs.invariant.Fields.{Extra, Kept}
-use Rattle.model.proofs.invariant.Owners.{Owner, Intact}
-use Rattle.model.proofs.invariant.Tasks.{Task, Three, Two, way}
-use Rattle.model.proofs.chain.{Ends.ends-real, Links.inner-in}
-use Rattle.model.proofs.places.Owned.{push-pop}
+use Rattle.model.proofs.{tests.Truth.not-both, lists.Slots.slots, chain.{Ends.ends-real, Links.inner-in}}
+use Rattle.model.proofs.{machine.{Book.BookCall, Laws.same-true, ByStep.by-step}, places.Owned.push-pop}
+use Rattle.model.proofs.machine.Machine.{Anchor, Link, Move, Phase, Place, Rec, Shared, act, at6, beside, inner}
+use Rattle.model.proofs.machine.Machine.{fetching, inside, isIdle, leaving, outside, phase, pop, pushing, same}
+use Rattle.model.proofs.machine.Machine.{reaches, returning, takes, tip}
+use Rattle.model.proofs.invariant.{Fields.{Extra, Kept}, Owners.{Owner, Intact}, Tasks.{Task, Three, Two, way}}
 
 pub record Extras (m : Move) : Type 0 where
   pub extra : Extra (m .rec .place) (m .rec)

@@ -1,29 +1,23 @@
 -- No operation is refused 34, and each leaves the tables safe.
-use mathlib.Core.Bool.{Bool, _&&_, false, not, true}
-use mathlib.Core.List.{List, [], _∷_}
-use mathlib.Core.Logic.{_≢_, _⊎_, inl, inr}
+use mathlib.Core.{Bool.{Bool, _&&_, false, not, true}, List.{List, [], _∷_}, Logic.{_≢_, _⊎_, inl, inr}}
 use mathlib.Core.Path.{_≡_, ap, subst, sym}
 use Prim.Native.Nat.{suc, ℕ}
 use native.Mathlib.Omega.{arith}
 use lib.Dec.{eqb, leb}
 use borrow.Author.Tests.{eq-eqb, eqb-false, eqb-true, not-false}
 use Rattle.model.specs.Calls.{Acted, Done, act, actOn, back, finish, popStart, pushStart, pushPooledStart, step}
-use Rattle.model.specs.History.{Ledger, NeverUnsound, Request, final, run}
-use Rattle.model.specs.Places.{wordFound}
-use Rattle.model.specs.declared.{Asked.Asked, Answer.Answer, Op.Op, Call.Call, Record.Record}
-use Rattle.model.specs.Refusals.{among, fits, late, namedPush, nothingAsked, pooledPush}
-use Rattle.model.specs.Refusals.{popRefusal, pushRefusal, pushPooledRefusal, startRefusal, stepRefusal, stepSound}
+use Rattle.model.specs.{History.{Ledger, NeverUnsound, Request, final, run}, Places.wordFound}
+use Rattle.model.specs.declared.{Asked.Asked, Answer.Answer, Op.{Op, the-variants.{Pop, Push, PushPooled, Step}}}
+use Rattle.model.specs.declared.{Call.Call, Record.Record, Outcome.the-variants.{Moved, Refused}}
+use Rattle.model.specs.Refusals.{among, fits, late, namedPush, nothingAsked, pooledPush, popRefusal, pushRefusal}
+use Rattle.model.specs.Refusals.{pushPooledRefusal, startRefusal, stepRefusal, stepSound}
 use Rattle.model.specs.Sound.{controlSound, recordSound}
 use Rattle.model.specs.Tables.{Queue, Tables, asking, isPooled, recordAt, started, taskAt, unused}
-use Rattle.model.specs.declared.Op.the-variants.{Pop, Push, PushPooled, Step}
-use Rattle.model.specs.declared.Outcome.the-variants.{Moved, Refused}
-use Rattle.model.proofs.tests.Truth.{by-test, decide-eq, not-both}
-use Rattle.model.proofs.lists.Store.{set-back}
-use Rattle.model.proofs.bridge.Accepted.{Lies, lies, pop-accepted, push-accepted, push-pooled-accepted, step-accepted}
-use Rattle.model.proofs.ledger.{EveryOperation.act-good, Matched.Matched}
-use Rattle.model.proofs.unsound.{Safe.Safe, StepSafe.step-safe}
+use Rattle.model.proofs.{tests.Truth.{by-test, decide-eq, not-both}, lists.Store.set-back}
+use Rattle.model.proofs.bridge.Accepted.{Lies, lies, pop-accepted, push-accepted, push-pooled-accepted}
+use Rattle.model.proofs.{bridge.Accepted.step-accepted, ledger.{EveryOperation.act-good, Matched.Matched}}
+use Rattle.model.proofs.unsound.{Safe.Safe, StepSafe.step-safe, StepSound.{own-sound, step-sound}}
 use Rattle.model.proofs.unsound.StartSafe.{early-room, pop-begins, push-begins, push-pooled-begins, start-safe}
-use Rattle.model.proofs.unsound.StepSound.{own-sound, step-sound}
 
 module _ (n : ℕ) (q : Queue) (l : Ledger) (g : Matched n q l) (f : Safe q) (t : ℕ) where
   abbrev r : Call

@@ -1,25 +1,17 @@
 -- Facts as tests: an Anchor, a link word and a busy record within their meaning pass the tests of soundness.
-use mathlib.Core.Bool.{Bool, _&&_, _||_, cond, false, not, true}
-use mathlib.Core.Logic.{_≢_}
-use mathlib.Core.Path.{_∙_, _≡_, ap, refl, subst, sym}
+use mathlib.Core.{Bool.{Bool, _&&_, _||_, cond, false, not, true}, Logic._≢_, Path.{_∙_, _≡_, ap, refl, subst, sym}}
 use Prim.Native.Nat.{_≤_, ℕ}
 use native.Mathlib.Omega.{arith}
 use lib.Dec.{eqb, leb}
 use borrow.Author.Tests.{eq-eqb, eqb-false, eqb-true, le-leb, leb-true, ne-eqb}
-use Rattle.word.specs.Anchor.{anchorOf}
-use Rattle.word.specs.Link.{linkOf, spareOf}
-use Rattle.word.specs.declared.Anchor.{Anchor}
+use Rattle.word.specs.{Anchor.anchorOf, Link.{linkOf, spareOf}, declared.Anchor.Anchor}
 use Rattle.model.specs.Sound.{anchorSound, anchorTests, from1, linkSound, recordSound, recordTests}
 use Rattle.model.specs.declared.Call.{Call}
-use Rattle.model.proofs.tests.ByPlace.{by-place}
-use Rattle.model.proofs.tests.Rules.{_and_, passes}
+use Rattle.model.proofs.{tests.{ByPlace.by-place, Rules.{_and_, passes}}, machine.Book.BookCall}
 use Rattle.model.proofs.tests.Truth.{agree, and-of, and-true, beq-of, or-cases, or-first, or-second, split}
-use Rattle.model.proofs.machine.Book.{BookCall}
+use Rattle.model.proofs.{invariant.{Fields.Extra, Owners.Owner, Tasks.Task}, places.Owned.push-pop}
+use Rattle.model.proofs.bridge.{Facts.{AnchorFine, RecordFine}, View.{kindOf, placeOf, recOf, statusOf}}
 use Rattle.model.proofs.machine.Machine as M
-use Rattle.model.proofs.invariant.{Fields.Extra, Owners.Owner, Tasks.Task}
-use Rattle.model.proofs.places.Owned.{push-pop}
-use Rattle.model.proofs.bridge.Facts.{AnchorFine, RecordFine}
-use Rattle.model.proofs.bridge.View.{kindOf, placeOf, recOf, statusOf}
 
 pub anchor-sound : (slots : ℕ) (a : Anchor) → AnchorFine slots a → anchorSound slots a ≡ true
 unfolding anchorSound

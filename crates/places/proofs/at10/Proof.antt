@@ -3,8 +3,7 @@ use mathlib.Core.Path.{refl, sym, _∙_}
 use borrow.Author.Needs.{needs}
 use Rattle.model.specs.Route.{route}
 use Rattle.decide.specs.Ending.{settled, noEntry, failing}
-use Rattle.places.proofs.Anchors.{Tries, fails, denies, makes, step10}
-use Rattle.places.proofs.at10.Statement.{statement}
+use Rattle.places.proofs.{Anchors.{Tries, fails, denies, makes, step10}, at10.Statement.statement}
 use Rattle.places.proofs.at10.Tie as tie
 
 module _ (b : tie.After-new10) where

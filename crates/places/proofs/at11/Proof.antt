@@ -2,8 +2,7 @@
 use mathlib.Core.Path.{_≡_, sym, _∙_}
 use borrow.Author.Needs.{needs}
 use Rattle.decide.specs.Decided.{ownEnd}
-use Rattle.places.proofs.OnRows.{cleared11, unsound11}
-use Rattle.places.proofs.at11.Statement.{statement}
+use Rattle.places.proofs.{OnRows.{cleared11, unsound11}, at11.Statement.statement}
 use Rattle.places.proofs.at11.Tie as tie
 
 -- The end, as read, tested for a slot.

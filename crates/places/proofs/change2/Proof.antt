@@ -2,8 +2,7 @@
 use mathlib.Core.Path.{sym, _∙_}
 use borrow.Author.Needs.{needs}
 use Rattle.model.specs.Route.{route}
-use Rattle.places.proofs.Anchors.{Tries, found, denies, makes, step2}
-use Rattle.places.proofs.change2.Statement.{statement}
+use Rattle.places.proofs.{Anchors.{Tries, found, denies, makes, step2}, change2.Statement.statement}
 use Rattle.places.proofs.change2.Tie as tie
 
 module _ (b : tie.After-new2) where

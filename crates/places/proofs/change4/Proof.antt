@@ -3,8 +3,7 @@ use mathlib.Core.Path.{sym, _∙_}
 use borrow.Author.Needs.{needs}
 use Rattle.model.specs.Route.{route}
 use Rattle.decide.specs.Ending.{remembered}
-use Rattle.places.proofs.Anchors.{Tries, found, denies, makes, step4}
-use Rattle.places.proofs.change4.Statement.{statement}
+use Rattle.places.proofs.{Anchors.{Tries, found, denies, makes, step4}, change4.Statement.statement}
 use Rattle.places.proofs.change4.Tie as tie
 
 module _ (b : tie.After-new4) where

@@ -1,14 +1,9 @@
 -- By the tests.
-use mathlib.Core.Path.{_≡_, refl, sym, ap, _∙_}
-use mathlib.Core.Bool.{Bool, true, false, _&&_, _||_, not, cond}
-use mathlib.Core.List.{List}
+use mathlib.Core.{Path.{_≡_, refl, sym, ap, _∙_}, Bool.{Bool, true, false, _&&_, _||_, not, cond}, List.List}
 use Prim.Native.Nat.{ℕ, _-_}
-use lib.Dec.{eqb, ltb}
-use lib.ListN.{getD}
-use borrow.Author.Needs.{needs}
-use borrow.Author.Tests.{eq-eqb, ne-eqb, lt-ltb, le-ltb}
-use Rattle.model.specs.declared.Call.{Call}
-use Rattle.model.specs.Tables.{Tables, unused}
+use lib.{Dec.{eqb, ltb}, ListN.getD}
+use borrow.Author.{Needs.needs, Tests.{eq-eqb, ne-eqb, lt-ltb, le-ltb}}
+use Rattle.model.specs.{declared.Call.Call, Tables.{Tables, unused}}
 use Rattle.rows.specs.Rows.{recordsOf}
 use Rattle.schedule_model.specs.Search.{bound, least}
 use Rattle.schedule_search.specs.Sought.{choice}

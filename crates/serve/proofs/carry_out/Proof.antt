@@ -4,10 +4,8 @@ use Prim.Native.Nat.{_-_, _*_, _<_, _≤_}
 use native.Mathlib.Omega.{arith}
 use borrow.Author.Needs.{needs}
 use lib.ListN.{length}
-use Rattle.serve.specs.Requests.{requestsFrom}
-use Rattle.serve.specs.Serving.{stateIn, served}
-use Rattle.serve.proofs.Served.{requestIn, served-all, served-none, served-next}
-use Rattle.serve.proofs.carry_out.Statement.{statement}
+use Rattle.serve.specs.{Requests.requestsFrom, Serving.{stateIn, served}}
+use Rattle.serve.proofs.{Served.{requestIn, served-all, served-none, served-next}, carry_out.Statement.statement}
 use Rattle.serve.proofs.carry_out.Tie as tie
 
 abbrev Inv-loop : tie.InvT-loop

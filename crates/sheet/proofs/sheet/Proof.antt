@@ -1,23 +1,13 @@
-use mathlib.Core.Bool.{Bool, true, false, _&&_}
-use mathlib.Core.List.{List, []}
-use mathlib.Core.Path.{_≡_, refl, sym, ap, _∙_}
+use mathlib.Core.{Bool.{Bool, true, false, _&&_}, List.{List, []}, Path.{_≡_, refl, sym, ap, _∙_}}
 use Prim.Native.Nat.{ℕ}
 use lib.ListN.{length}
-use borrow.Author.Tests.{not-true, not-false}
-use Rattle.model.specs.Tables.{Tables, tablesOf}
-use Rattle.model.specs.Sound.{controlSound, rowsFit}
+use borrow.Author.{Tests.{not-true, not-false}, Needs.needs}
+use Rattle.model.specs.{Tables.{Tables, tablesOf}, Sound.{controlSound, rowsFit}}
 use Rattle.sound.specs.Lengths.{lengthsFit}
-use Rattle.sheet.specs.Refusals.{unfit}
-use Rattle.sheet_model.specs.Sheet.{Sheet, malformed}
-use Rattle.sheet_model.specs.Words.{linked}
-use Rattle.sheet.specs.Squares.{byteRow, crossed}
-use Rattle.sheet_model.specs.Verdict.{refused, sheet}
-use Rattle.sheet.specs.Search.{inRows}
-use Rattle.sheet.proofs.ByteRows.{bytes, bytes-show, square-marks}
-use Rattle.sheet_model.proofs.Formed.{formed}
-use Rattle.sheet.proofs.Judged.{Accepted, slots-few, accepted, judge-unfit, judge-lost, judge-told, told-lost, told-made}
-use borrow.Author.Needs.{needs}
-use Rattle.sheet.proofs.sheet.Statement.{statement}
+use Rattle.sheet.specs.{Refusals.unfit, Squares.{byteRow, crossed}, Search.inRows}
+use Rattle.sheet_model.{specs.{Sheet.{Sheet, malformed}, Words.linked, Verdict.{refused, sheet}}, proofs.Formed.formed}
+use Rattle.sheet.proofs.{ByteRows.{bytes, bytes-show, square-marks}, Judged.told-made, sheet.Statement.statement}
+use Rattle.sheet.proofs.Judged.{Accepted, slots-few, accepted, judge-unfit, judge-lost, judge-told, told-lost}
 use Rattle.sheet.proofs.sheet.Tie as tie
 
 with-true : (b : Bool) → b && true ≡ b

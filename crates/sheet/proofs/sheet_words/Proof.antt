@@ -1,28 +1,16 @@
-use mathlib.Core.Bool.{Bool, false, _&&_}
-use mathlib.Core.List.{List, []}
-use mathlib.Core.Path.{_≡_, sym, ap, subst, _∙_}
+use mathlib.Core.{Bool.{Bool, false, _&&_}, List.{List, []}, Path.{_≡_, sym, ap, subst, _∙_}}
 use Prim.Native.Nat.{ℕ, _≤_}
 use native.Mathlib.Omega.{arith}
-use lib.Dec.{leb}
-use lib.ListN.{length, drop}
-use borrow.Author.Tests.{leb-true, not-true, not-false}
-use Rattle.model.specs.Tables.{Tables, tablesOf}
-use Rattle.model.specs.Sound.{controlSound, rowsFit}
-use Rattle.model.proofs.tests.Truth.{and-true}
+use lib.{Dec.leb, ListN.{length, drop}}
+use borrow.Author.{Tests.{leb-true, not-true, not-false}, Needs.needs}
+use Rattle.model.{specs.{Tables.{Tables, tablesOf}, Sound.{controlSound, rowsFit}}, proofs.tests.Truth.and-true}
 use Rattle.sound.specs.Lengths.{lengthsFit}
-use Rattle.sheet.specs.Refusals.{unfit}
-use Rattle.sheet_model.specs.declared.SheetReply.{SheetReply}
-use Rattle.sheet_model.specs.Sheet.{Sheet, malformed}
-use Rattle.sheet_model.specs.Words.{wordsOf}
-use Rattle.sheet.specs.Squares.{bitRow, crossed}
-use Rattle.sheet_model.specs.Verdict.{refused}
-use Rattle.sheet.specs.Search.{inRows}
-use Rattle.sheet.proofs.BitRows.{bits, bits-show, words-long}
+use Rattle.sheet.specs.{Refusals.unfit, Squares.{bitRow, crossed}, Search.inRows}
+use Rattle.sheet_model.specs.{declared.SheetReply.SheetReply, Sheet.{Sheet, malformed}, Words.wordsOf, Verdict.refused}
 use Rattle.sheet_model.proofs.Formed.{formed}
-use Rattle.sheet.proofs.Judged.{Accepted, slots-few, accepted, judge-unfit, judge-lost, judge-told, told-lost, told-made}
-use Rattle.sheet.proofs.Printed.{rows-code, printed-refused, printed-told}
-use borrow.Author.Needs.{needs}
-use Rattle.sheet.proofs.sheet_words.Statement.{statement}
+use Rattle.sheet.proofs.{BitRows.{bits, bits-show, words-long}, Judged.told-made}
+use Rattle.sheet.proofs.Judged.{Accepted, slots-few, accepted, judge-unfit, judge-lost, judge-told, told-lost}
+use Rattle.sheet.proofs.{Printed.{rows-code, printed-refused, printed-told}, sheet_words.Statement.statement}
 use Rattle.sheet.proofs.sheet_words.Tie as tie
 
 -- The sheet, the queue whatever its next rows, the lent words, and the beginning.

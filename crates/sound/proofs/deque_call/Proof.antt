@@ -2,8 +2,7 @@
 use mathlib.Core.Path.{sym, _∙_}
 use borrow.Author.Tests.{eq-eqb, ne-eqb, not-true, not-false}
 use Rattle.sound.specs.Records.{dequeCall}
-use Rattle.sound.proofs.DequePlaces.{pops}
-use Rattle.sound.proofs.deque_call.Statement.{statement}
+use Rattle.sound.proofs.{DequePlaces.pops, deque_call.Statement.statement}
 use Rattle.sound.proofs.deque_call.Tie as tie
 
 returns : tie.Need-returns

@@ -1,6 +1,5 @@
 -- The left end no slot, no status; from place 5 on, equal ends, or different ones.
-use mathlib.Core.Path.{_≡_, sym, ap, _∙_}
-use mathlib.Core.Bool.{Bool, true}
+use mathlib.Core.{Path.{_≡_, sym, ap, _∙_}, Bool.{Bool, true}}
 use borrow.Author.Tests.{not-true, not-false}
 use Rattle.word.specs.Anchor.{anchorOf}
 use Rattle.model.specs.Sound.{from1}

@@ -2,9 +2,7 @@
 use mathlib.Core.Path.{_≡_, sym, _∙_}
 use Prim.Native.Nat.{ℕ, _<_}
 use native.Mathlib.Omega.{arith}
-use Rattle.sound.proofs.DequePlaces.{deque-places}
-use Rattle.sound.proofs.SlotPlaces.{slot-places}
-use Rattle.sound.proofs.Refused.{no-call, unsound, passes}
+use Rattle.sound.proofs.{DequePlaces.deque-places, SlotPlaces.slot-places, Refused.{no-call, unsound, passes}}
 use Rattle.sound.proofs.record_refusal.Statement.{statement}
 use Rattle.sound.proofs.record_refusal.Tie as tie
 

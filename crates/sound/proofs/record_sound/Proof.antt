@@ -2,9 +2,7 @@
 use mathlib.Core.Path.{sym, _∙_}
 use native.Mathlib.Omega.{arith}
 use borrow.Author.Tests.{eq-eqb}
-use Rattle.sound.proofs.Parts.{idle-sound}
-use Rattle.sound.proofs.DequePlaces.{deque-places}
-use Rattle.sound.proofs.SlotPlaces.{slot-places}
+use Rattle.sound.proofs.{Parts.idle-sound, DequePlaces.deque-places, SlotPlaces.slot-places}
 use Rattle.sound.proofs.record_sound.Statement.{statement}
 use Rattle.sound.proofs.record_sound.Tie as tie
 

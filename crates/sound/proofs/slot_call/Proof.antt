@@ -2,8 +2,7 @@
 use mathlib.Core.Path.{_∙_}
 use borrow.Author.Tests.{eq-eqb, ne-eqb, le-leb, lt-leb, not-true, not-false}
 use Rattle.sound.specs.Records.{slotCall}
-use Rattle.sound.proofs.SlotPlaces.{gives}
-use Rattle.sound.proofs.slot_call.Statement.{statement}
+use Rattle.sound.proofs.{SlotPlaces.gives, slot_call.Statement.statement}
 use Rattle.sound.proofs.slot_call.Tie as tie
 
 returns : tie.Need-returns

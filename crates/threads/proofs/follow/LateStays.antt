@@ -1,25 +1,21 @@
 -- A late Anchor stays late: whatever the records hold, no instruction lowers Anchor's tag.
-use mathlib.Core.Path.{_≡_, refl, ap, sym, subst}
-use mathlib.Core.Bool.{Bool, true, false, not}
-use mathlib.Core.List.{List}
+use mathlib.Core.{Path.{_≡_, refl, ap, sym, subst}, Bool.{Bool, true, false, not}, List.List}
 use Prim.Native.Nat.{ℕ, _<_, _≤_}
 use native.Mathlib.Omega.{arith}
 use lib.{Dec.eqb, ListN.getD}
 use borrow.Author.Tests.{eqb-true, ltb-true, lt-ltb}
 use Rattle.word.specs.Anchor.{anchorOf}
-use Rattle.model.specs.declared.{Call.Call, Record.Record, Outcome.Outcome, Op.Op}
-use Rattle.model.specs.declared.Op.the-variants.{Push, Pop, PushPooled, Step}
+use Rattle.model.specs.{declared.{Call.Call, Record.Record, Outcome.Outcome}, Sides.links, Sound.linkSound}
+use Rattle.model.specs.{declared.Op.{Op, the-variants.{Push, Pop, PushPooled, Step}}, Refusals.late}
 use Rattle.model.specs.Tables.{Tables, taskAt, marked, withAnchor, started, asking}
-use Rattle.model.specs.{Sides.links, Sound.linkSound, Refusals.late}
 use Rattle.model.proofs.tests.Truth.{either, by-test, not-both}
-use Rattle.threads_model.specs.declared.PlannedTouch.{PlannedTouch}
-use Rattle.threads_model.specs.Split.{Touched, perform, plan}
-use Rattle.threads_model.specs.Starts.{ownRefusal}
-use Rattle.threads_model.specs.Instructions.{Hand, free, begun, loaded, knows, claims, looks, labels, marks, ends, Ticked}
-use Rattle.threads_model.specs.Instructions.{isToPut, isAsRead, loadsOwn, putsOwn, readsNext, atOnce, oneWord, replaces, stepFirst, clears, tick}
+use Rattle.threads_model.specs.{declared.PlannedTouch.PlannedTouch, Split.{Touched, perform, plan}, Starts.ownRefusal}
+use Rattle.threads_model.specs.Instructions.{Hand, free, begun, loaded, knows, claims, looks, labels, marks, ends, tick}
+use Rattle.threads_model.specs.Instructions.{Ticked, isToPut, isAsRead, loadsOwn, putsOwn, readsNext, atOnce, oneWord}
+use Rattle.threads_model.specs.Instructions.{replaces, stepFirst, clears}
 use Rattle.threads_model.specs.Crew.{Crew, Act, calls, next, takesUp, ticked, go}
-use Rattle.threads.proofs.follow.Plans.{Two, says}
-use Rattle.threads.proofs.follow.Starting.{plainStart, namedOwn, first-pop, first-push-pooled, first-push, claims-is, looks-is}
+use Rattle.threads.proofs.follow.{Plans.{Two, says}, Starting.first-push-pooled}
+use Rattle.threads.proofs.follow.Starting.{claims-is, looks-is, plainStart, namedOwn, first-pop, first-push}
 
 -- A push that has passed 33, and had no turn yet.
 abbrev pub isClaims : Hand → Bool

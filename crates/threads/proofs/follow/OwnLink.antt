@@ -1,33 +1,22 @@
 -- The own link word of a push at 3, once loaded, is nobody else's to change: so its compare-and-swap fits.
-use mathlib.Core.Path.{_≡_, refl, ap, sym, subst, _∙_}
-use mathlib.Core.Bool.{Bool, true, false, cond, not}
+use mathlib.Core.{Path.{_≡_, refl, ap, sym, subst, _∙_}, Bool.{Bool, true, false, cond, not}}
 use Prim.Native.Nat.{ℕ, _<_}
 use native.Mathlib.Omega.{arith}
-use lib.Dec.{eqb}
-use lib.ListN.{length, getD, set}
-use lib.Seq.{getD-set-same, getD-set-other}
+use lib.{Dec.eqb, ListN.{length, getD, set}, Seq.{getD-set-same, getD-set-other}}
 use borrow.Author.Tests.{eqb-true, eqb-false, eq-eqb}
-use Rattle.model.specs.declared.{Record.Record}
-use Rattle.model.specs.declared.Op.the-variants.{Push, Pop, PushPooled, Step}
-use Rattle.model.specs.Tables.{Tables, Queue, taskAt, unused, linked, marked}
-use Rattle.model.specs.{Sides.links, Refusals.late}
-use Rattle.model.specs.Places.{linkSide, row}
-use Rattle.model.proofs.tests.Truth.{either, by-test, not-both, split}
-use Rattle.model.proofs.invariant.Owners.{Owner, held, queued}
+use Rattle.model.specs.{declared.{Record.Record, Op.the-variants.{Push, Pop, PushPooled, Step}}, Sides.links}
+use Rattle.model.specs.{Tables.{Tables, Queue, taskAt, unused, linked, marked}, Refusals.late, Places.{linkSide, row}}
+use Rattle.model.proofs.{tests.Truth.{either, by-test, not-both, split}, invariant.Owners.{Owner, held, queued}}
 use Rattle.model.proofs.places.Owned.{queued-held}
-use Rattle.threads_model.specs.declared.PlannedTouch.{PlannedTouch}
-use Rattle.threads_model.specs.Split.{Touched, perform, plan}
-use Rattle.threads_model.specs.Starts.{ownRefusal}
-use Rattle.threads_model.specs.Instructions.{Hand, free, begun, loaded, knows, claims, looks, labels, marks, ends, Ticked}
-use Rattle.threads_model.specs.Instructions.{atOnce, isAsRead, isToPut, loadsOwn, oneWord, putInto, putsOwn, readsNext, replaces, stepFirst, clears}
-use Rattle.threads_model.specs.Instructions.{tick, written}
+use Rattle.threads_model.specs.{declared.PlannedTouch.PlannedTouch, Split.{Touched, perform, plan}, Starts.ownRefusal}
+use Rattle.threads_model.specs.Instructions.{Hand, free, begun, loaded, knows, claims, looks, labels, marks, ends, tick}
+use Rattle.threads_model.specs.Instructions.{Ticked, atOnce, isAsRead, isToPut, loadsOwn, oneWord, putInto, putsOwn}
+use Rattle.threads_model.specs.Instructions.{readsNext, replaces, stepFirst, clears, written}
 use Rattle.threads_model.specs.Crew.{Crew, next, ticked, go}
 use Rattle.threads.specs.Promises.{recordOf}
-use Rattle.threads.proofs.follow.LinkPlans.{changes}
-use Rattle.threads.proofs.follow.Starting.{namedOwn, first-pop, first-push-pooled, first-push, claims-is, looks-is}
+use Rattle.threads.proofs.follow.{LinkPlans.changes, Starting.looks-is, Good.Good, Relation.{Extra, Sim}}
+use Rattle.threads.proofs.follow.Starting.{namedOwn, first-pop, first-push-pooled, first-push, claims-is}
 use Rattle.threads.proofs.follow.Good as own
-use Rattle.threads.proofs.follow.Good.{Good}
-use Rattle.threads.proofs.follow.Relation.{Extra, Sim}
 
 -- Another row's link words stay.
 linked-other : (q : Tables) (d y w side x : ℕ) → (x ≡ y → ⊥) → getD (links (linked q d y w) side) x 0 ≡ getD (links q side) x 0

@@ -1,18 +1,14 @@
 -- The instructions of a start, by what they look at.
-use mathlib.Core.Path.{_≡_, refl}
-use mathlib.Core.Bool.{true, false, not, cond}
-use mathlib.Core.List.{[], _∷_}
+use mathlib.Core.{Path.{_≡_, refl}, Bool.{true, false, not, cond}, List.{[], _∷_}}
 use Prim.Native.Nat.{ℕ}
 use lib.Dec.{eqb}
-use Rattle.model.specs.declared.{Call.Call, Record.Record, Op.Op}
-use Rattle.model.specs.declared.Answer.the-variants.{Running}
-use Rattle.model.specs.declared.Outcome.the-variants.{Refused, Moved}
-use Rattle.model.specs.declared.Op.the-variants.{Push, Pop, PushPooled}
+use Rattle.model.specs.{declared.{Call.Call, Record.Record, Op.{Op, the-variants.{Push, Pop, PushPooled}}}, Sound.from1}
+use Rattle.model.specs.{declared.{Answer.the-variants.Running, Outcome.the-variants.{Refused, Moved}}, Refusals.late}
 use Rattle.model.specs.Tables.{Tables, marked, withMark, withMarks, withCall, started, asking}
-use Rattle.model.specs.{Sound.from1, Refusals.late}
 use Rattle.model.proofs.tests.Truth.{split}
 use Rattle.threads_model.specs.Starts.{names, pops, puts, ownRefusal, planStart, settleStart}
-use Rattle.threads_model.specs.Instructions.{Hand, claims, looks, labels, ends, Ticked, quiet, decided, startFirst, claimsMark, looksMark}
+use Rattle.threads_model.specs.Instructions.{Hand, claims, looks, labels, ends, Ticked, quiet, decided, startFirst}
+use Rattle.threads_model.specs.Instructions.{claimsMark, looksMark}
 
 -- A pop, or a push that names no slot: refused by its own numbers and record, refused 33, or carried out.
 abbrev pub plainStart : Tables → Record → Op → ℕ → Call → ℕ → Ticked

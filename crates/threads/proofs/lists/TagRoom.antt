@@ -1,36 +1,25 @@
 -- Anchor's tag has room for the changes still to come, if a push that has passed 33 and had no turn yet counts as one that owes two.
-use mathlib.Core.Path.{_≡_, refl, ap, sym, subst, fun-ext, _∙_}
-use mathlib.Core.Bool.{Bool, true, false, cond}
-use mathlib.Core.List.{List}
+use mathlib.Core.{Path.{_≡_, refl, ap, sym, subst, fun-ext, _∙_}, Bool.{Bool, true, false, cond}, List.List}
 use mathlib.Core.Logic.{_≢_, _⊎_, inl, inr}
 use Prim.Native.Nat.{ℕ, _+_, _<_, _≤_}
 use native.Mathlib.Omega.{arith}
 use lib.Dec.{eqb}
 use borrow.Author.Tests.{eqb-true, eq-eqb, ne-eqb, ltb-false}
 use Rattle.word.specs.Anchor.{anchorOf}
-use Rattle.model.specs.declared.{Call.Call, Record.Record, Op.Op}
-use Rattle.model.specs.declared.Op.the-variants.{Push, Pop, PushPooled, Step}
-use Rattle.model.specs.declared.Outcome.the-variants.{Refused}
-use Rattle.model.specs.Tables.{Tables, Queue, recordAt, started, taskAt, unused, withCall}
-use Rattle.model.specs.{Sound.controlSound, History.Ledger}
-use Rattle.model.specs.Places.{move, wordFound}
+use Rattle.model.specs.declared.{Call.Call, Record.Record, Op.{Op, the-variants.{Push, Pop, PushPooled, Step}}}
+use Rattle.model.specs.{declared.Outcome.the-variants.Refused, Sound.controlSound, History.Ledger}
+use Rattle.model.specs.{Tables.{Tables, Queue, recordAt, started, taskAt, unused, withCall}, Places.{move, wordFound}}
 use Rattle.model.specs.Refusals.{among, late, popRefusal, pushRefusal, pushPooledRefusal, stepRefusal}
 use Rattle.model.specs.Calls.{Acted, Done, act, actOn, back, finish, popStart, pushStart, pushPooledStart, step}
-use Rattle.model.proofs.tests.Truth.{by-test, decide-eq, not-both, split}
-use Rattle.model.proofs.lists.Store.{set-back}
-use Rattle.model.proofs.machine.Laws.{upd-other, upd-same}
-use Rattle.model.proofs.machine.Machine as M
-use Rattle.model.proofs.machine.Machine.{upd}
-use Rattle.model.proofs.invariant.Tags.{cost, weight}
+use Rattle.model.proofs.{tests.Truth.{by-test, decide-eq, not-both, split}, lists.Store.set-back}
+use Rattle.model.proofs.{machine.{Laws.{upd-other, upd-same}, Machine.upd}, invariant.Tags.{cost, weight}}
 use Rattle.model.proofs.bridge.Accepted.{Lies, pop-accepted, push-accepted, push-pooled-accepted, step-accepted}
-use Rattle.model.proofs.bridge.{Decoded.seenMove, Facts.control-fine, Stores.touched-tasks}
-use Rattle.model.proofs.bridge.Operations.{put-back, state-is, task-of}
-use Rattle.model.proofs.bridge.View.{recOf, stateOf, view}
-use Rattle.model.proofs.ledger.Matched.{Matched}
+use Rattle.model.proofs.bridge.{Decoded.seenMove, Facts.control-fine, Stores.touched-tasks, View.{recOf, stateOf, view}}
+use Rattle.model.proofs.{bridge.Operations.{put-back, state-is, task-of}, ledger.Matched.Matched}
 use Rattle.model.proofs.tags.AnchorTag.{WeightKept, cost-small, unsettled-small}
 use Rattle.model.proofs.tags.Sum.{total, total-keep, total-le, total-upd}
-use Rattle.model.proofs.unsound.{Safe.Safe, StartSafe.Room}
-use Rattle.model.proofs.unsound.StepSound.{weight-kept, seen, stepping}
+use Rattle.model.proofs.unsound.{Safe.Safe, StartSafe.Room, StepSound.{weight-kept, seen, stepping}}
+use Rattle.model.proofs.machine.Machine as M
 use Rattle.threads_model.specs.Turns.{actEarly, takeEarly}
 use Rattle.threads.proofs.lists.EarlyPush.{pushed, waited}
 

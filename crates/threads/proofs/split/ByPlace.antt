@@ -1,23 +1,19 @@
 -- At each place plan, touch and settlement are the model's step there.
-use mathlib.Core.Path.{_≡_, refl, sym, subst}
-use mathlib.Core.Bool.{Bool, true, false, cond}
+use mathlib.Core.{Path.{_≡_, refl, sym, subst}, Bool.{Bool, true, false, cond}}
 use Prim.Native.Nat.{ℕ, suc, _≤_}
 use native.Mathlib.Omega.{arith}
-use lib.Dec.{eqb, leb}
-use lib.ListN.{getD}
+use lib.{Dec.{eqb, leb}, ListN.getD}
 use borrow.Author.Tests.{eqb-true, eqb-false}
 use Rattle.word.specs.Anchor.{anchorOf}
-use Rattle.model.specs.declared.{Control.Control, Call.Call}
-use Rattle.model.specs.Tables.{Tables, isPooled, atPlace, withOwn}
-use Rattle.model.specs.Sound.{from1, anchorSound, linkSound}
+use Rattle.model.specs.{declared.{Control.Control, Call.Call}, Tables.{Tables, isPooled, atPlace, withOwn}}
+use Rattle.model.specs.{Sound.{from1, anchorSound, linkSound}, Refusals.stepSound, Calls.finish}
 use Rattle.model.specs.Places.{row, stackEmpty, raised, move, at12, at13, at14, at15, at16, at17}
-use Rattle.model.specs.{Refusals.stepSound, Calls.finish}
-use Rattle.model.specs.Route.{route, pushRoute, popRoute}
-use Rattle.model.proofs.tests.Truth.{split}
+use Rattle.model.{specs.Route.{route, pushRoute, popRoute}, proofs.tests.Truth.split}
 use Rattle.places.specs.Arm.{stepAt}
 use Rattle.decide.proofs.Routes.{Quiet}
 use Rattle.threads.proofs.split.Touches as touches
-use Rattle.threads_model.specs.Split.{loadsHead, swapsHead, drawsSlot, knowing, loads, planned, perform, gone, settledAt, meetsAnchor}
+use Rattle.threads_model.specs.Split.{loadsHead, swapsHead, drawsSlot, knowing, loads, planned, perform, gone}
+use Rattle.threads_model.specs.Split.{settledAt, meetsAnchor}
 use Rattle.threads.proofs.split.DequePlaces as E
 use Rattle.threads.proofs.split.Settlement.{any-entry, told, change-splits}
 

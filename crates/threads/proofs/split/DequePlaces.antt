@@ -1,28 +1,22 @@
 -- At places 1 to 10 plan, touch and settlement are the model's step there.
-use mathlib.Core.Path.{_≡_, refl, ap, sym, _∙_}
-use mathlib.Core.Bool.{Bool, true, false, _&&_, not, cond}
+use mathlib.Core.{Path.{_≡_, refl, ap, sym, _∙_}, Bool.{Bool, true, false, _&&_, not, cond}}
 use Prim.Native.Nat.{ℕ, _+_}
 use lib.{Dec.eqb, ListN.getD}
-use Rattle.word.specs.Anchor.{anchorOf}
-use Rattle.word.specs.Link.{linkOf, packLink}
-use Rattle.model.specs.declared.{Control.Control, Call.Call}
-use Rattle.model.specs.Tables.{Tables, atPlace, withSeen, withNeighbour, counting}
-use Rattle.model.specs.Sides.{links}
-use Rattle.model.specs.Kinds.{isPush, isPop}
-use Rattle.model.specs.Sound.{from1, anchorSound, linkSound}
-use Rattle.model.specs.Places.{Touch, nothing, setAnchor, Move, apply, reading, row, linkSide, endSeen, new4, move, at1, at2, at3, at4, at5, at6, at7}
-use Rattle.model.specs.Places.{at9, at10}
-use Rattle.model.specs.Refusals.{leavesSound, hasRoom, stepSound}
-use Rattle.model.specs.Route.{route, pushRoute, popRoute}
-use Rattle.model.specs.Calls.{Acted, decide, finish}
+use Rattle.word.specs.{Anchor.anchorOf, Link.{linkOf, packLink}}
+use Rattle.model.specs.{declared.{Control.Control, Call.Call}, Sides.links, Kinds.{isPush, isPop}}
+use Rattle.model.specs.{Tables.{Tables, atPlace, withSeen, withNeighbour, counting}, Route.{route, pushRoute, popRoute}}
+use Rattle.model.specs.{Sound.{from1, anchorSound, linkSound}, Places.{at2, at3, at4, at5, at6, at7, at9, at10}}
+use Rattle.model.specs.Places.{Touch, nothing, setAnchor, Move, apply, reading, row, linkSide, endSeen, new4, move, at1}
+use Rattle.model.specs.{Refusals.{leavesSound, hasRoom, stepSound}, Calls.{Acted, decide, finish}}
 use Rattle.model.proofs.tests.Truth.{split, either}
 use Rattle.places.specs.Arm.{stepAt}
 use Rattle.decide.proofs.Routes.{kinds, readings, Quiet}
 use Rattle.threads.proofs.split.Touches as touches
-use Rattle.threads.proofs.split.Settlement.{any-entry, told, settled-with, one, none, row-splits, change-splits, row-change-splits}
+use Rattle.threads.proofs.split.Settlement.{any-entry, told, settled-with, one, none, row-splits, change-splits}
+use Rattle.threads.proofs.split.Settlement.{row-change-splits}
 use Rattle.threads_model.specs.declared.PlannedTouch.{PlannedTouch}
-use Rattle.threads_model.specs.Split.{refuses, refusing, swapsAnchor, loadsAnchor, swapsLink, loadsLink, putsLink}
-use Rattle.threads_model.specs.Split.{loads, touchAsRead, planFor, planned, perform, gone, settledAt, meetsAnchor}
+use Rattle.threads_model.specs.Split.{refuses, refusing, swapsAnchor, loadsAnchor, swapsLink, loadsLink, putsLink, gone}
+use Rattle.threads_model.specs.Split.{loads, touchAsRead, planFor, planned, perform, settledAt, meetsAnchor}
 
 module _ (q : Tables) (k : ℕ) where
   abbrev pub c : Control

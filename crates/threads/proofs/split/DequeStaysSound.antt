@@ -1,22 +1,16 @@
 -- Places 1 to 10 leave a sound record.
-use mathlib.Core.Path.{_≡_, refl, ap, sym, subst}
-use mathlib.Core.Bool.{Bool, true, false, _&&_, _||_, not, cond}
+use mathlib.Core.{Path.{_≡_, refl, ap, sym, subst}, Bool.{Bool, true, false, _&&_, _||_, not, cond}}
 use Prim.Native.Nat.{ℕ, _+_, _≤_}
 use native.Mathlib.Omega.{arith}
 use lib.Dec.{eqb, leb}
 use borrow.Author.Tests.{eq-eqb, ne-eqb}
-use Rattle.word.specs.Anchor.{anchorOf, packAnchor}
-use Rattle.word.specs.Link.{linkOf}
-use Rattle.model.specs.declared.{Control.Control, Call.Call}
-use Rattle.model.specs.Tables.{atPlace, withSeen, withNeighbour, withLink}
-use Rattle.model.specs.Kinds.{isPush, isPop}
-use Rattle.model.specs.Sides.{pushing, isEmpty, facing, far}
+use Rattle.word.specs.{Anchor.{anchorOf, packAnchor}, Link.linkOf}
+use Rattle.model.specs.{declared.{Control.Control, Call.Call}, Tables.{atPlace, withSeen, withNeighbour, withLink}}
+use Rattle.model.specs.{Kinds.{isPush, isPop}, Sides.{pushing, isEmpty, facing, far}, Refusals.leavesSound}
 use Rattle.model.specs.Sound.{from1, anchorSound, linkSound, recordSound}
 use Rattle.model.specs.Places.{Move, reading, sideOf, endSeen, new4, at1, at2, at3, at4, at5, at6, at7, at9, at10}
 use Rattle.model.specs.Route.{route, onward, goes, pushRoute, popRoute}
-use Rattle.model.specs.Refusals.{leavesSound}
-use Rattle.model.proofs.tests.Truth.{either, by-test, and-of, or-first}
-use Rattle.model.proofs.laws.Onward.{reads-on}
+use Rattle.model.proofs.{tests.Truth.{either, by-test, and-of, or-first}, laws.Onward.reads-on}
 use Rattle.threads_model.specs.Split.{knowing}
 use Rattle.threads.proofs.split.SoundFields as F
 

@@ -1,19 +1,15 @@
 -- What each place asks, in the terms of the code.
-use mathlib.Core.Path.{_≡_, refl, ap, sym, _∙_}
-use mathlib.Core.Bool.{Bool, true, false, cond}
+use mathlib.Core.{Path.{_≡_, refl, ap, sym, _∙_}, Bool.{Bool, true, false, cond}}
 use Prim.Native.Nat.{ℕ, _+_, _/_, _^_}
 use lib.Dec.{eqb, ltb}
-use Rattle.word.specs.Anchor.{anchorOf, packAnchor}
-use Rattle.word.specs.Link.{linkOf, packLink}
-use Rattle.model.specs.declared.Call.{Call}
-use Rattle.model.specs.{Tables.atPlace, Sound.from1}
-use Rattle.model.specs.Sides.{far, facing, pushing}
-use Rattle.model.specs.Places.{Touch, nothing, setAnchor, row, sideOf, linkSide, new4, move, at1, at2, at3, at4, at5, at6, at7, at9, at10, at11, at12}
-use Rattle.model.specs.Places.{at13, at14, at15, at16, at17}
+use Rattle.word.specs.{Anchor.{anchorOf, packAnchor}, Link.{linkOf, packLink}}
+use Rattle.model.specs.{declared.Call.Call, Tables.atPlace, Sound.from1, Sides.{far, facing, pushing}}
+use Rattle.model.specs.Places.{Touch, nothing, setAnchor, row, sideOf, linkSide, new4, move, at1, at2, at3, at4, at5}
+use Rattle.model.specs.Places.{at6, at7, at9, at10, at11, at12, at13, at14, at15, at16, at17}
 use Rattle.model.proofs.tests.Truth.{split}
 use Rattle.decide.specs.Ending.{mayChange}
-use Rattle.threads_model.specs.declared.PlannedTouch.{PlannedTouch}
-use Rattle.threads_model.specs.Split.{planOf, refuses, loadsAnchor, swapsAnchor, loadsLink, loadsHead, loads, touchAsRead, planFor, planned}
+use Rattle.threads_model.specs.{declared.PlannedTouch.PlannedTouch, Split.{touchAsRead, planned}}
+use Rattle.threads_model.specs.Split.{planOf, refuses, loadsAnchor, swapsAnchor, loadsLink, loadsHead, loads, planFor}
 use Rattle.threads.proofs.split.Touches as touches
 
 -- The side that a status names, and its opposite.

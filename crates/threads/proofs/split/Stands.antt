@@ -1,19 +1,14 @@
 -- A split step is the step on the lent record.
-use mathlib.Core.Path.{_≡_, _∙_}
-use mathlib.Core.Bool.{true}
+use mathlib.Core.{Path.{_≡_, _∙_}, Bool.true}
 use Prim.Native.Nat.{ℕ}
 use native.Mathlib.Omega.{arith}
 use lib.Dec.{eqb}
 use borrow.Author.Tests.{eqb-true}
 use Rattle.word.specs.Anchor.{anchorOf}
-use Rattle.model.specs.declared.Record.{Record}
-use Rattle.model.specs.Tables.{Tables, isPooled}
-use Rattle.model.proofs.tests.{Rules.tests, Truth.split}
-use Rattle.model.specs.Sound.{anchorSound, controlTests, controlSound}
+use Rattle.model.specs.{declared.Record.Record, Tables.{Tables, isPooled}, Calls.stepLent}
+use Rattle.model.{specs.Sound.{anchorSound, controlTests, controlSound}, proofs.tests.{Rules.tests, Truth.split}}
 use Rattle.model.specs.Refusals.{admission, alone, fits, recordRefusal}
-use Rattle.model.specs.Calls.{stepLent}
-use Rattle.engine.specs.StepAdmitted.{stepAdmitted}
-use Rattle.engine.proofs.InParts.{admitted, placed, below-18}
+use Rattle.engine.{specs.StepAdmitted.stepAdmitted, proofs.InParts.{admitted, placed, below-18}}
 use Rattle.threads_model.specs.Split.{perform, plan, settle, splitStep}
 use Rattle.threads.specs.Promises.{SplitStands}
 use Rattle.threads.proofs.split.ByPlace.{splits}

@@ -1,18 +1,13 @@
 -- What a place touches where every word is as read, at the places whose touch hangs on a test; and the move at 11.
-use mathlib.Core.Path.{_≡_, refl, ap}
-use mathlib.Core.Bool.{Bool, true, false, cond}
+use mathlib.Core.{Path.{_≡_, refl, ap}, Bool.{Bool, true, false, cond}}
 use Prim.Native.Nat.{ℕ, _+_}
 use lib.Dec.{eqb}
 use borrow.Author.Tests.{eq-eqb}
-use Rattle.word.specs.Anchor.{anchorOf, packAnchor}
-use Rattle.word.specs.Link.{linkOf, packLink}
-use Rattle.model.specs.declared.{Control.Control, Call.Call}
-use Rattle.model.specs.Tables.{isPooled, atPlace, withSeen, withOwn, withNeighbour}
-use Rattle.model.specs.Sides.{facing}
-use Rattle.model.specs.Kinds.{isPush, isPop}
-use Rattle.model.specs.Places.{Touch, nothing, setAnchor, setLink, clearMark, takeSlot, setHead, Move, raised}
-use Rattle.model.specs.Places.{reading, row, sideOf, linkSide, endSeen, new4, move, at2, at3, at4, at9, at10, at11, at14, at17}
-use Rattle.model.proofs.tests.Truth.{split}
+use Rattle.word.specs.{Anchor.{anchorOf, packAnchor}, Link.{linkOf, packLink}}
+use Rattle.model.specs.{declared.{Control.Control, Call.Call}, Sides.facing, Kinds.{isPush, isPop}}
+use Rattle.model.{specs.Tables.{isPooled, atPlace, withSeen, withOwn, withNeighbour}, proofs.tests.Truth.split}
+use Rattle.model.specs.Places.{Touch, nothing, setAnchor, setLink, clearMark, takeSlot, setHead, Move, raised, reading}
+use Rattle.model.specs.Places.{row, sideOf, linkSide, endSeen, new4, move, at2, at3, at4, at9, at10, at11, at14, at17}
 use Rattle.threads_model.specs.Split.{knowing, touchAsRead}
 
 -- A word equals itself.

@@ -1,17 +1,13 @@
 -- With i slots stored: what is still to be stored, beside what is, comes to what the call owes.
-use mathlib.Core.Path.{_≡_, refl, sym, ap, subst, _∙_}
-use mathlib.Core.List.{List}
+use mathlib.Core.{Path.{_≡_, refl, sym, ap, subst, _∙_}, List.List}
 use Prim.Native.Nat.{ℕ, _≤_, _<_, _+_, _-_}
 use native.Mathlib.Omega.{arith}
 use lib.ListN.{getD, length, length-set, set}
 use borrow.Author.Needs.{needs}
 use Rattle.word.specs.Link.{linkOf}
-use Rattle.walk.specs.declared.Way.{Way}
-use Rattle.walk.specs.Ways.{linksOn}
-use Rattle.waiting.specs.Waiting.{slotsOf, labelsOf}
-use Rattle.waiting.specs.Laid.{Inside, Lays, trail, place, laid}
-use Rattle.waiting.proofs.Laid.{begins, more, ends, inside-next, place-low}
-use Rattle.waiting.proofs.lay.Statement.{statement}
+use Rattle.walk.specs.{declared.Way.Way, Ways.linksOn}
+use Rattle.waiting.specs.{Waiting.{slotsOf, labelsOf}, Laid.{Inside, trail, place, laid}}
+use Rattle.waiting.proofs.{Laid.{begins, more, ends, inside-next, place-low}, lay.Statement.statement}
 use Rattle.waiting.proofs.lay.Tie as tie
 
 record Kept (w : Way) (n : ℕ) (links labels slots₀ copies₀ slots copies : List ℕ) (i x : ℕ) : Type 0 where

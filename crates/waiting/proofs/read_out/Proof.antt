@@ -1,15 +1,11 @@
 -- Refused before the walk, by the walk, for want of room, or written: what each call ensures.
-use mathlib.Core.Path.{_≡_, sym, ap, _∙_}
-use mathlib.Core.List.{List, []}
+use mathlib.Core.{Path.{_≡_, sym, ap, _∙_}, List.{List, []}}
 use Prim.Native.Nat.{ℕ}
 use borrow.Author.Needs.{needs}
-use Rattle.model.specs.Tables.{Tables, tablesOf}
-use Rattle.model.specs.Sound.{rowsFit}
-use Rattle.model.specs.Walk.{contents}
+use Rattle.model.specs.{Tables.{Tables, tablesOf}, Sound.rowsFit, Walk.contents}
 use Rattle.sound.specs.Lengths.{lengthsFit}
 use Rattle.walk.specs.Counted.{counted}
-use Rattle.waiting.specs.declared.WaitingReply.{WaitingReply}
-use Rattle.waiting.specs.Waiting.{Written}
+use Rattle.waiting.specs.{declared.WaitingReply.WaitingReply, Waiting.Written}
 use Rattle.waiting.proofs.ReadingOut.{why, turned-away, empty, lost, short, ready, writes}
 use Rattle.waiting.proofs.read_out.Statement.{statement}
 use Rattle.waiting.proofs.read_out.Tie as tie

@@ -1,10 +1,8 @@
 -- With the Anchor as unpacked, and so as it is.
-use mathlib.Core.Path.{_≡_, sym, ap, _∙_}
-use mathlib.Core.Bool.{true, false}
+use mathlib.Core.{Path.{_≡_, sym, ap, _∙_}, Bool.{true, false}}
 use borrow.Author.Tests.{eq-eqb, ne-eqb}
 use lib.Dec.{eqb}
-use Rattle.word.specs.declared.Anchor.{Anchor}
-use Rattle.word.specs.Anchor.{anchorOf}
+use Rattle.word.specs.{declared.Anchor.Anchor, Anchor.anchorOf}
 use Rattle.walk.specs.Ways.{wayOf}
 use Rattle.walk.proofs.begin.Statement.{statement}
 use Rattle.walk.proofs.begin.Tie as tie

@@ -1,17 +1,11 @@
 -- With n slots met, what comes of n along the rest of the walk is what the whole walk counts.
-use mathlib.Core.Path.{_≡_, refl, sym, ap, _∙_}
-use mathlib.Core.Bool.{true}
-use mathlib.Core.List.{List, []}
-use Prim.Native.Nat.{ℕ, _≤_, _<_, _+_, _-_}
+use mathlib.Core.{Path.{_≡_, sym, ap, _∙_}, Bool.true, List.{List, []}}
+use Prim.Native.Nat.{ℕ, _≤_, _+_, _-_}
 use native.Mathlib.Omega.{arith}
 use Rattle.model.specs.Sound.{from1}
-use Rattle.walk.specs.declared.Way.{Way}
-use Rattle.walk.specs.Ways.{ahead, leadsTo}
-use Rattle.walk.specs.Counted.{counted}
-use Rattle.walk.specs.Over.{Made, over}
-use Rattle.walk.proofs.Along.{comes, begins, full, breaks, stops, goes, real}
+use Rattle.walk.specs.{declared.Way.Way, Ways.ahead, Counted.counted, Over.{Made, over}}
+use Rattle.walk.proofs.{Along.{comes, begins, full, breaks, stops, goes, real}, count.Statement.statement}
 use Rattle.walk.proofs.Counting.{oneMore, tallied, tally-is}
-use Rattle.walk.proofs.count.Statement.{statement}
 use Rattle.walk.proofs.count.Tie as tie
 
 record Kept (w : Way) (lefts rights : List ℕ) (n x : ℕ) : Type 0 where

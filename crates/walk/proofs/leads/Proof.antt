@@ -5,8 +5,7 @@ use lib.ListN.{getD}
 use borrow.Author.Tests.{not-true, not-false}
 use Rattle.model.specs.Sound.{linkSound}
 use Rattle.walk.specs.Ways.{linksOn, leadsTo}
-use Rattle.walk.proofs.Along.{half-slot}
-use Rattle.walk.proofs.leads.Statement.{statement}
+use Rattle.walk.proofs.{Along.half-slot, leads.Statement.statement}
 use Rattle.walk.proofs.leads.Tie as tie
 
 judged : (s : tie.After-link-sound) → (let a = s .before .before .before .before .args in

@@ -1,17 +1,9 @@
 -- The count goes the way of the walk.
-use mathlib.Core.Path.{_≡_, sym, ap, _∙_}
-use mathlib.Core.Bool.{cond, true, false}
-use mathlib.Core.List.{List}
+use mathlib.Core.{Path.{sym, ap, _∙_}, Bool.cond, List.List}
 use Prim.Native.Nat.{ℕ}
-use borrow.Author.Tests.{not-true}
-use Rattle.model.specs.Sound.{from1}
-use Rattle.model.specs.Tables.{Tables, tablesOf}
-use Rattle.walk.specs.declared.Way.{Way}
-use Rattle.walk.specs.Counted.{counted}
-use Rattle.walk.specs.Ways.{ahead}
-use Rattle.walk.proofs.Along.{waits, nothing, off}
-use Rattle.walk.proofs.Counting.{either-way}
-use Rattle.walk.proofs.waiting.Statement.{statement}
+use Rattle.model.specs.{Sound.from1, Tables.{Tables, tablesOf}}
+use Rattle.walk.specs.{declared.Way.Way, Counted.counted, Ways.ahead}
+use Rattle.walk.proofs.{Along.{waits, nothing, off}, Counting.either-way, waiting.Statement.statement}
 use Rattle.walk.proofs.waiting.Tie as tie
 
 -- The tables, whatever their labels, marks and next rows.

@@ -1,19 +1,12 @@
 -- With i positions ahead: the least answer event of those behind, and the first of them that stands too early.
-use mathlib.Core.Bool.{cond}
-use mathlib.Core.List.{List, _∷_}
-use mathlib.Core.Path.{_≡_, sym, ap, _∙_}
+use mathlib.Core.{Bool.cond, List.{List, _∷_}, Path.{_≡_, sym, ap, _∙_}}
 use Prim.Native.Nat.{ℕ, _+_, _-_, _/_, _≤_, min}
 use native.Mathlib.Omega.{arith}
 use borrow.Author.Needs.{needs}
-use lib.Dec.{ltb}
-use lib.ListN.{length, getD, drop}
-use lib.Seq.{drop-length}
-use Rattle.audit_model.specs.declared.Finished.{Finished}
-use Rattle.audit_model.specs.Audit.{inOrder}
-use Rattle.audit_model.specs.LentHistory.{callsIn}
+use lib.{Dec.ltb, ListN.{length, getD, drop}, Seq.drop-length}
+use Rattle.audit_model.specs.{declared.Finished.Finished, Audit.inOrder, LentHistory.callsIn}
 use Rattle.audit.specs.FirstMisplaced.{firstMisplaced}
-use Rattle.audit.proofs.Misplaced.{misplaced-turn, leastEnd}
-use Rattle.audit.proofs.WordsRead.{next-call, number-known}
+use Rattle.audit.proofs.{Misplaced.{misplaced-turn, leastEnd}, WordsRead.{next-call, number-known}}
 use Rattle.audit.proofs.order.first_misplaced.Statement.{statement}
 use Rattle.audit.proofs.order.first_misplaced.Tie as tie
 

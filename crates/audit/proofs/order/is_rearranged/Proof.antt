@@ -1,19 +1,13 @@
 -- The numbers behind position i are of calls, none is listed twice, and those listed have their marks set.
-use mathlib.Core.Bool.{Bool, true, false, _&&_, not}
-use mathlib.Core.Path.{_≡_, refl, sym, ap, _∙_, subst}
-use mathlib.Core.List.{List, [], _∷_}
+use mathlib.Core.{Bool.{Bool, true, false, _&&_, not}, Path.{_≡_, refl, sym, ap, _∙_, subst}, List.{List, [], _∷_}}
 use Prim.Native.Nat.{ℕ, _+_, _-_, _≤_}
 use native.Mathlib.Omega.{arith}
-use borrow.Author.Needs.{needs}
-use borrow.Author.Tests.{not-false, not-true}
+use borrow.Author.{Needs.needs, Tests.{not-false, not-true}}
 use lib.ListN.{length, getD, drop, drop-of-length-le, length-set}
-use Rattle.model.specs.Sound.{from1}
-use Rattle.model.specs.Tables.{withMark}
+use Rattle.model.specs.{Sound.from1, Tables.withMark}
 use Rattle.audit_model.specs.Audit.{allOf, differ}
-use Rattle.audit.proofs.Loops.{drop-next, passes, passes-turn}
-use Rattle.audit.proofs.Listed.{Listed, none-listed, one-more}
-use Rattle.audit.proofs.Verdicts.{another-length, not-rearranged, same-length}
-use Rattle.audit.proofs.WordsRead.{within}
+use Rattle.audit.proofs.{Loops.{drop-next, passes, passes-turn}, Listed.{Listed, none-listed, one-more}}
+use Rattle.audit.proofs.{Verdicts.{another-length, not-rearranged, same-length}, WordsRead.within}
 use Rattle.audit.proofs.order.is_rearranged.Statement.{statement}
 use Rattle.audit.proofs.order.is_rearranged.Tie as tie
 

@@ -1,19 +1,12 @@
 -- Each stage of the rules, on the queues that the call was given.
-use mathlib.Core.Path.{_≡_, sym, subst, _∙_}
-use mathlib.Core.Bool.{_&&_}
-use mathlib.Core.List.{List, [], _∷_}
+use mathlib.Core.{Path.{_≡_, sym, subst, _∙_}, Bool._&&_, List.{List, [], _∷_}}
 use Prim.Native.Nat.{ℕ, _/_}
-use lib.Dec.{ltb}
-use lib.ListN.{length}
-use Rattle.model.specs.Tables.{Queue, queueOf}
-use Rattle.model.specs.Sound.{controlSound}
-use Rattle.model.specs.Walk.{contents}
-use Rattle.model.specs.Lists.{every}
+use lib.{Dec.ltb, ListN.length}
+use Rattle.model.specs.{Tables.{Queue, queueOf}, Sound.controlSound, Walk.contents, Lists.every}
 use Rattle.walk.specs.Counted.{counted}
 use Rattle.rows.specs.Rows.{recordsOf}
 use Rattle.join_model.specs.Join.{thirdFits}
-use Rattle.join.specs.Stages.{testsRefusal}
-use Rattle.join.specs.Admits.{walked, Admits}
+use Rattle.join.specs.{Stages.testsRefusal, Admits.{walked, Admits}}
 use Rattle.join.proofs.Admitting.{fits-is, why, turned-away, small, lost, met-all, decided}
 use Rattle.join.proofs.admit.admit.Statement.{statement}
 use Rattle.join.proofs.admit.admit.Tie as tie

@@ -1,6 +1,5 @@
 -- The tests of the controls.
-use mathlib.Core.Path.{_∙_}
-use mathlib.Core.List.{[], _∷_}
+use mathlib.Core.{Path._∙_, List.{[], _∷_}}
 use Rattle.model.specs.Lists.{every}
 use Rattle.join.specs.Stages.{testsRefusal}
 use Rattle.join.proofs.admit.table_rules.Statement.{statement}

@@ -3,8 +3,7 @@ use mathlib.Core.Path.{ap, _∙_}
 use Prim.Native.Nat.{_+_}
 use borrow.Author.Needs.{needs}
 use Rattle.word.specs.declared.Anchor.{Anchor}
-use Rattle.join_model.specs.Merge.{merge}
-use Rattle.join_model.specs.Closed.{filled, leftOf, labelOf}
+use Rattle.join_model.specs.{Merge.merge, Closed.{filled, leftOf, labelOf}}
 use Rattle.join.specs.Scratch.{walkedTo, labelVia, rowsDown, rightTo}
 use Rattle.join.proofs.fill.fill.Statement.{statement}
 use Rattle.join.proofs.fill.fill.Tie as tie

@@ -1,16 +1,12 @@
 -- After k turns k rows are filled, and x is the slot after them.
-use mathlib.Core.Path.{_≡_, refl, ap, _∙_}
-use mathlib.Core.List.{List}
+use mathlib.Core.{Path.{_≡_, refl, ap, _∙_}, List.List}
 use Prim.Native.Nat.{ℕ, _≤_, _+_, _-_}
 use native.Mathlib.Omega.{arith}
 use lib.ListN.{length}
-use Rattle.word.specs.declared.Link.{Link}
-use Rattle.word.specs.Link.{linkOf}
-use Rattle.join_model.specs.Closed.{filled}
-use Rattle.join_model.proofs.Filling.{filled-length}
+use Rattle.word.specs.{declared.Link.Link, Link.linkOf}
+use Rattle.join_model.{specs.Closed.filled, proofs.Filling.filled-length}
 use Rattle.join.specs.Scratch.{trail, walkedTo}
-use Rattle.join.proofs.Filled.{filled-more, trail-more}
-use Rattle.join.proofs.fill.gather.Statement.{statement}
+use Rattle.join.proofs.{Filled.{filled-more, trail-more}, fill.gather.Statement.statement}
 use Rattle.join.proofs.fill.gather.Tie as tie
 
 record Kept (n end : ℕ) (links before now : List ℕ) (k x : ℕ) : Type 0 where

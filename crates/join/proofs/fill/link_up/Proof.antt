@@ -1,15 +1,12 @@
 -- After k turns k slots are linked and marked.
-use mathlib.Core.Path.{_≡_, refl, ap, _∙_}
-use mathlib.Core.List.{List}
+use mathlib.Core.{Path.{_≡_, refl, ap, _∙_}, List.List}
 use Prim.Native.Nat.{ℕ, _≤_, _-_, _+_}
 use native.Mathlib.Omega.{arith}
 use lib.ListN.{length}
 use Rattle.word.specs.Link.{packLink}
-use Rattle.join_model.specs.Closed.{filled, leftOf, markedTo}
-use Rattle.join_model.proofs.Filling.{filled-length, marked-length}
+use Rattle.join_model.{specs.Closed.{filled, leftOf, markedTo}, proofs.Filling.{filled-length, marked-length}}
 use Rattle.join.specs.Scratch.{rightTo}
-use Rattle.join.proofs.Filled.{filled-more, marked-more}
-use Rattle.join.proofs.fill.link_up.Statement.{statement}
+use Rattle.join.proofs.{Filled.{filled-more, marked-more}, fill.link_up.Statement.statement}
 use Rattle.join.proofs.fill.link_up.Tie as tie
 
 record Kept (n : ℕ) (lefts rights marks lefts′ rights′ marks′ : List ℕ) (k : ℕ) : Type 0 where

@@ -2,8 +2,7 @@
 use mathlib.Core.Path.{_≡_, _∙_}
 use Prim.Native.Nat.{ℕ, _+_}
 use native.Mathlib.Numerals.{add-one}
-use borrow.Author.Needs.{needs}
-use borrow.Author.Tests.{lt-ltb, le-ltb}
+use borrow.Author.{Needs.needs, Tests.{lt-ltb, le-ltb}}
 use Rattle.word.specs.Link.{packLink}
 use Rattle.join_model.specs.Closed.{rightOf}
 use Rattle.join.proofs.fill.right_word.Statement.{statement}

@@ -1,21 +1,14 @@
 -- What a side picks, mirrored: the opposite side picks the same of the mirrored tables.
-use mathlib.Core.Path.{_≡_, refl, ap, ap₂, _∙_}
-use mathlib.Core.Bool.{Bool, true, false, _||_, not, cond}
-use mathlib.Core.List.{List}
+use mathlib.Core.{Path.{_≡_, refl, ap, ap₂, _∙_}, Bool.{Bool, true, false, _||_, not, cond}, List.List}
 use Prim.Native.Nat.{ℕ, zero, suc, _<_}
 use native.Mathlib.Omega.{arith}
-use lib.Dec.{eqb, leb}
-use lib.ListN.{getD}
+use lib.{Dec.{eqb, leb}, ListN.getD}
 use borrow.Author.Tests.{leb-true}
-use Rattle.word.specs.declared.Anchor.{Anchor}
-use Rattle.word.specs.{Anchor.anchorOf, Link.linkOf}
-use Rattle.model.specs.declared.Call.{Call}
-use Rattle.model.specs.Tables.{Tables}
-use Rattle.model.specs.Places.{sideOf, endSeen, row, linkSide, wordFound}
+use Rattle.word.specs.{declared.Anchor.Anchor, Anchor.anchorOf, Link.linkOf}
+use Rattle.model.specs.{declared.Call.Call, Tables.Tables, Places.{sideOf, endSeen, row, linkSide, wordFound}}
 use Rattle.model.specs.Mirror.{mirrorSide, mirrorStatus, mirrorAnchor, mirrorTables, mirrorBusy}
+use Rattle.model.specs.{Sides.{opposite, near, far, facing, links, pushing, statusSide}, Kinds.{helping, isPush}}
 use Rattle.model.proofs.laws.Mirror.Packed.{mirror-fields}
-use Rattle.model.specs.Sides.{opposite, near, far, facing, links, pushing, statusSide}
-use Rattle.model.specs.Kinds.{helping, isPush}
 
 -- A side enters by one test alone.
 module _ (d : ℕ) where

@@ -1,9 +1,7 @@
 -- `step17`, with what the calls answer put in; each return is one of its cases.
 use mathlib.Core.Path.{sym, _∙_}
-use borrow.Author.Needs.{needs}
-use borrow.Author.Tests.{eq-eqb, ne-eqb}
-use Rattle.places.proofs.OnStack.{step17}
-use Rattle.places.proofs.pool.at17.Statement.{statement}
+use borrow.Author.{Needs.needs, Tests.{eq-eqb, ne-eqb}}
+use Rattle.places.proofs.{OnStack.step17, pool.at17.Statement.statement}
 use Rattle.places.proofs.pool.at17.Tie as tie
 
 returns : tie.Need-returns

@@ -1,20 +1,13 @@
 -- Refused by its number, or its place's contract and what is stored of it, by `deque-place`.
-use mathlib.Core.Path.{_≡_, sym, subst, _∙_}
-use mathlib.Core.List.{List}
+use mathlib.Core.{Path.{_≡_, sym, subst, _∙_}, List.List}
 use Prim.Native.Nat.{ℕ, suc, _<_, _≤_}
 use native.Mathlib.Omega.{arith}
-use borrow.Author.Needs.{needs}
-use borrow.Author.Tests.{not-true, not-false}
-use Rattle.model.specs.declared.Control.{Control}
-use Rattle.model.specs.declared.Call.{Call}
-use Rattle.model.specs.Tables.{isPooled}
-use Rattle.model.specs.Refusals.{recordRefusal}
-use Rattle.sound.proofs.DequePlaces.{deque-places}
+use borrow.Author.{Needs.needs, Tests.{not-true, not-false}}
+use Rattle.model.specs.{declared.{Control.Control, Call.Call}, Tables.isPooled, Refusals.recordRefusal}
+use Rattle.sound.proofs.{DequePlaces.deque-places, Refused.{no-call, unsound, passes}}
 use Rattle.engine.proofs.InParts.{above}
 use Rattle.rows.specs.Rows.{callOf}
-use Rattle.sound.proofs.Refused.{no-call, unsound, passes}
-use Rattle.rows.proofs.InItsRow.{refuses, deque-place}
-use Rattle.rows.proofs.moving.deque_step.Statement.{statement}
+use Rattle.rows.proofs.{InItsRow.{refuses, deque-place}, moving.deque_step.Statement.statement}
 use Rattle.rows.proofs.moving.deque_step.Tie as tie
 
 -- Control and record, read from their rows.

@@ -1,11 +1,10 @@
 -- Nothing, a row all zero, or what a step at 1 to 10 that goes on may change.
 use mathlib.Core.Path.{refl, ap, sym, _∙_}
 use Rattle.rows.specs.Rows.{callOf, recordOf, upperOf}
-use Rattle.rows.proofs.Rows.{counting}
+use Rattle.rows.proofs.{Rows.counting, moving.put_deque.Statement.statement}
 use Rattle.model.specs.Tables.{idle}
 use Rattle.engine.proofs.Stored.{deque-end, deque-going, deque-nothing, refused-goes}
 use borrow.Author.Needs.{needs}
-use Rattle.rows.proofs.moving.put_deque.Statement.{statement}
 use Rattle.rows.proofs.moving.put_deque.Tie as tie
 
 returns : tie.Need-returns

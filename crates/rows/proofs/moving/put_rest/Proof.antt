@@ -1,7 +1,6 @@
 -- Nothing, the head alone, or own slot and label too.
 use mathlib.Core.Path.{refl, sym, _∙_}
-use borrow.Author.Tests.{not-true, not-false}
-use borrow.Author.Needs.{needs}
+use borrow.Author.{Tests.{not-true, not-false}, Needs.needs}
 use Rattle.rows.specs.Rows.{recordOf}
 use Rattle.engine.proofs.Stored.{rest-end, rest-going, rest-nothing}
 use Rattle.rows.proofs.moving.put_rest.Statement.{statement}

@@ -1,21 +1,13 @@
 -- Refused by its number, or its place's contract and what is stored of it, by `at-its-place`.
-use mathlib.Core.Path.{_≡_, sym, subst, _∙_}
-use mathlib.Core.List.{List, []}
+use mathlib.Core.{Path.{_≡_, sym, subst, _∙_}, List.{List, []}}
 use Prim.Native.Nat.{ℕ, _<_, _≤_}
-use native.Mathlib.Nat.{le-antisymm}
-use native.Mathlib.Omega.{arith}
-use borrow.Author.Needs.{needs}
-use borrow.Author.Tests.{not-true, not-false}
-use Rattle.model.specs.declared.Control.{Control}
-use Rattle.model.specs.declared.Call.{Call}
-use Rattle.model.specs.Tables.{isPooled, tablesOf}
-use Rattle.model.specs.Refusals.{recordRefusal}
-use Rattle.sound.proofs.SlotPlaces.{slot-places}
+use native.Mathlib.{Nat.le-antisymm, Omega.arith}
+use borrow.Author.{Needs.needs, Tests.{not-true, not-false}}
+use Rattle.model.specs.{declared.{Control.Control, Call.Call}, Tables.{isPooled, tablesOf}, Refusals.recordRefusal}
+use Rattle.sound.proofs.{SlotPlaces.slot-places, Refused.{unsound, passes}}
 use Rattle.engine.proofs.InParts.{above, below-18}
 use Rattle.rows.specs.Rows.{controlOf, callOf, recordOf}
-use Rattle.rows.proofs.Rows.{counting}
-use Rattle.sound.proofs.Refused.{unsound, passes}
-use Rattle.rows.proofs.InItsRow.{in-layers, refuses, at-its-place}
+use Rattle.rows.proofs.{Rows.counting, InItsRow.{in-layers, refuses, at-its-place}}
 use Rattle.rows.proofs.moving.slot_step.Statement.{statement}
 use Rattle.rows.proofs.moving.slot_step.Tie as tie
 

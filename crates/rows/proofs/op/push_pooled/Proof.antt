@@ -2,9 +2,8 @@
 use mathlib.Core.Path.{refl}
 use Rattle.model.specs.Calls.{actOn}
 use Rattle.calls.proofs.Starts.{push-pooled-begun}
-use Rattle.rows.proofs.Starting.{started, push-pooled-starts}
+use Rattle.rows.proofs.{Starting.{started, push-pooled-starts}, op.push_pooled.Statement.statement}
 use borrow.Author.Needs.{needs}
-use Rattle.rows.proofs.op.push_pooled.Statement.{statement}
 use Rattle.rows.proofs.op.push_pooled.Tie as tie
 
 returns : tie.Need-returns

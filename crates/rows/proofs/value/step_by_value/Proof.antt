@@ -1,17 +1,11 @@
 -- The step in a row of its own.
-use mathlib.Core.Path.{_≡_, ap, _∙_}
-use mathlib.Core.List.{List}
+use mathlib.Core.{Path.{_≡_, ap, _∙_}, List.List}
 use Prim.Native.Nat.{ℕ}
 use borrow.Author.Needs.{needs}
-use Rattle.model.specs.declared.Control.{Control}
-use Rattle.model.specs.declared.Call.{Call}
-use Rattle.model.specs.declared.Record.{Record}
-use Rattle.model.specs.declared.Outcome.{Outcome}
-use Rattle.model.specs.Tables.{tablesOf}
+use Rattle.model.specs.{declared.{Control.Control, Call.Call, Record.Record, Outcome.Outcome}, Tables.tablesOf}
 use Rattle.model.specs.Calls.{Acted}
 use Rattle.engine.specs.StepAdmitted.{stepAdmitted}
-use Rattle.rows.specs.Rows.{controlOf, callOf, recordOf}
-use Rattle.rows.specs.Moved.{RowMoved}
+use Rattle.rows.specs.{Rows.{controlOf, callOf, recordOf}, Moved.RowMoved}
 use Rattle.rows.proofs.value.step_by_value.Statement.{statement}
 use Rattle.rows.proofs.value.step_by_value.Tie as tie
 

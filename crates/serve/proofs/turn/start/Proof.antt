@@ -2,12 +2,10 @@
 use mathlib.Core.Path.{_≡_, sym, ap, _∙_}
 use native.Mathlib.Omega.{arith}
 use borrow.Author.Needs.{needs}
-use Rattle.model.specs.declared.Op.{Op}
-use Rattle.model.specs.Calls.{act}
+use Rattle.model.specs.{declared.Op.Op, Calls.act}
 use Rattle.rows.specs.Rows.{queueIn, uppersOf, writesRow}
 use Rattle.capi.specs.Replies.{Replied, replied}
-use Rattle.serve.proofs.Served.{a-push, a-pop, a-push-pooled}
-use Rattle.serve.proofs.turn.start.Statement.{statement}
+use Rattle.serve.proofs.{Served.{a-push, a-pop, a-push-pooled}, turn.start.Statement.statement}
 use Rattle.serve.proofs.turn.start.Tie as tie
 
 -- From the first test to the start; what each operation answers.

@@ -1,11 +1,9 @@
 -- The walk goes the way that it begins.
 use mathlib.Core.Path.{_≡_, sym, ap, _∙_}
-use Rattle.walk.specs.declared.Way.{Way}
-use Rattle.walk.specs.Ways.{wayOf}
+use Rattle.walk.specs.{declared.Way.Way, Ways.wayOf}
 use Rattle.sheet.specs.Extents.{Extents, extents, told}
-use Rattle.sheet.proofs.Gather.{from-first, from-none}
+use Rattle.sheet.proofs.{Gather.{from-first, from-none}, extents.extents.Statement.statement}
 use borrow.Author.Needs.{needs}
-use Rattle.sheet.proofs.extents.extents.Statement.{statement}
 use Rattle.sheet.proofs.extents.extents.Tie as tie
 
 module _ (b : tie.After-begin) where

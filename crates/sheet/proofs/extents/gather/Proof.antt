@@ -1,20 +1,15 @@
 -- With so many slots left: what comes of the positions noted along the rest of the walk is what the whole walk notes.
-use mathlib.Core.Path.{_≡_, refl, sym, ap, subst, _∙_}
-use mathlib.Core.Bool.{true}
-use mathlib.Core.List.{List, []}
+use mathlib.Core.{Path.{_≡_, refl, sym, ap, subst, _∙_}, Bool.true, List.{List, []}}
 use Prim.Native.Nat.{ℕ, _≤_, _-_, _+_, _<_}
 use native.Mathlib.Omega.{arith}
 use lib.ListN.{length, getD}
 use borrow.Author.Needs.{needs}
 use Rattle.model.specs.Sound.{from1}
-use Rattle.walk.specs.declared.Way.{Way}
-use Rattle.walk.specs.Ways.{ahead}
-use Rattle.walk.specs.Over.{made, over}
+use Rattle.walk.specs.{declared.Way.Way, Ways.ahead, Over.{made, over}}
 use Rattle.walk.proofs.Along.{comes, begins, full, breaks, stops, goes, real}
 use Rattle.sheet.specs.Extents.{Noting, noted, firstAt, nextAt, ended}
 use Rattle.sheet.proofs.Turns.{position, position-first, position-on, position-low, position-high}
-use Rattle.sheet.proofs.Gather.{noted-is}
-use Rattle.sheet.proofs.extents.gather.Statement.{statement}
+use Rattle.sheet.proofs.{Gather.noted-is, extents.gather.Statement.statement}
 use Rattle.sheet.proofs.extents.gather.Tie as tie
 
 abbrev with : ℕ → List ℕ → List ℕ → Noting

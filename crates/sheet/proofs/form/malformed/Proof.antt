@@ -1,10 +1,8 @@
 use lib.ListN.{length}
-use mathlib.Core.Bool.{_||_}
-use mathlib.Core.Path.{sym, ap, _∙_}
+use mathlib.Core.{Bool._||_, Path.{sym, ap, _∙_}}
 use Rattle.sheet_model.specs.Sheet.{Sheet, any, outside}
-use Rattle.sheet.proofs.Turns.{many-listed, many-rules, others}
+use Rattle.sheet.proofs.{Turns.{many-listed, many-rules, others}, form.malformed.Statement.statement}
 use borrow.Author.Needs.{needs}
-use Rattle.sheet.proofs.form.malformed.Statement.{statement}
 use Rattle.sheet.proofs.form.malformed.Tie as tie
 
 abbrev givenSheet : tie.Start → Sheet

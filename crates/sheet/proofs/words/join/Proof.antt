@@ -1,11 +1,7 @@
-use mathlib.Core.Logic.{⊎-elim}
-use lib.ListN.{set, length-set}
-use lib.Seq.{set-getD}
-use borrow.Author.Tests.{eq-eqb, ne-eqb}
+use mathlib.Core.{Logic.⊎-elim, Path.{_≡_, refl, sym, ap, _∙_}}
+use lib.{ListN.{set, length-set, length, getD}, Seq.set-getD}
+use borrow.Author.{Tests.{eq-eqb, ne-eqb}, Needs.needs}
 use Prim.Native.Nat.{ℕ, _≤_, _-_}
-use mathlib.Core.Path.{_≡_, refl, sym, ap, _∙_}
-use lib.ListN.{length, getD}
-use borrow.Author.Needs.{needs}
 use Rattle.sheet.specs.Squares.{bitRow, sweep, joinVia, rounds}
 use Rattle.sheet.proofs.Turns.{join-marked, join-unmarked, sweep-on, sweep-end, rounds-on, rounds-end, all-left}
 use Rattle.sheet.proofs.words.join.Statement.{statement}

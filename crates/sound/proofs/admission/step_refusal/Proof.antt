@@ -1,10 +1,8 @@
 -- Each return is the first rule that applies, by the tests passed before it.
-use mathlib.Core.Path.{_≡_, sym, _∙_}
-use mathlib.Core.Bool.{Bool, true, false, _&&_}
+use mathlib.Core.{Path.{_≡_, sym, _∙_}, Bool.{Bool, true, false, _&&_}}
 use lib.Dec.{leb}
 use borrow.Author.Tests.{not-true, not-false}
-use Rattle.model.specs.Tables.{isPooled}
-use Rattle.model.specs.Sound.{controlSound}
+use Rattle.model.specs.{Tables.isPooled, Sound.controlSound}
 use Rattle.sound.specs.Lengths.{lengthsFit}
 use Rattle.sound.proofs.Asked.{by-tasks, by-anchor, by-slots, sound, by-next, by-rows}
 use Rattle.sound.proofs.admission.step_refusal.Statement.{statement}

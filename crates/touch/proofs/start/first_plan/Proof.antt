@@ -1,16 +1,10 @@
-use mathlib.Core.Path.{_≡_, refl, sym, ap, _∙_}
-use mathlib.Core.Bool.{false}
+use mathlib.Core.{Path.{_≡_, refl, sym, ap, _∙_}, Bool.false}
 use Prim.Native.Nat.{ℕ}
 use lib.Dec.{eqb, leb}
-use borrow.Author.Tests.{eq-eqb, ne-eqb, le-leb, lt-leb}
-use Rattle.model.specs.declared.Call.{Call}
-use Rattle.model.specs.Tables.{started, asking}
-use Rattle.model.proofs.tests.Truth.{either}
-use Rattle.threads_model.specs.declared.Start.{Start}
-use Rattle.threads_model.specs.Split.{refuses, plan}
-use Rattle.threads_model.specs.Starts.{firstCall}
+use borrow.Author.{Tests.{eq-eqb, ne-eqb, le-leb, lt-leb}, Needs.needs}
+use Rattle.model.{specs.{declared.Call.Call, Tables.{started, asking}}, proofs.tests.Truth.either}
+use Rattle.threads_model.specs.{declared.Start.Start, Split.{refuses, plan}, Starts.firstCall}
 use Rattle.touch.proofs.Starting as by
-use borrow.Author.Needs.{needs}
 use Rattle.touch.proofs.start.first_plan.Statement.{statement}
 use Rattle.touch.proofs.start.first_plan.Tie as tie
 
