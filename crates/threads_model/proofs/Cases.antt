@@ -225,9 +225,9 @@ pub record Cases : Type 0 where
 
 pub cases : Cases
 unfolding openAs opened openRefusal rowsFit told goOn go turns startFirst planStart settleStart claimsMark looksMark ownRefusal stepFirst isToPut
-    loadsOwn isAsRead putsOwn readsNext atOnce oneWord replaces clears loads planned plan planUnasked perform gone settledAt meetsAnchor settle settleUnasked recordRefusal
-    stepSound move at1 at2 at3 new4 at4 at5 at6 at7 at9 at10 at11 at12 at13 at14 at15 at16 at17 reading sideOf row linkSide anchorSound linkSound recordSound
-    pushRoute popRoute route onward answer goes counted
+    loadsOwn isAsRead putsOwn readsNext atOnce oneWord replaces clears loads planned plan planUnasked perform gone settledAt meetsAnchor settle
+    settleUnasked recordRefusal stepSound move at1 at2 at3 new4 at4 at5 at6 at7 at9 at10 at11 at12 at13 at14 at15 at16 at17 reading
+    sideOf row linkSide anchorSound linkSound recordSound pushRoute popRoute route onward answer goes counted
 cases = record {
   named-twice = refl;
   label-owed = refl;

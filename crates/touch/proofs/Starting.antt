@@ -154,7 +154,9 @@ module _ (pooled slots : ℕ) (was : List ℕ) (s : Start) where
   pub loaded-none : (n w : ℕ) (y : Reply) (p : PlannedTouch) → n ≡ why → (n ≡ 0 → ⊥) → y ≡ record { code = n; label = 0; value = 0 } → p ≡ refuses n
       → leaves was y p ≡ loads-by w
   unfolding recordOf
-  loaded-none n w y p e some ey ep = (λ i. leaves was (ey i) (ep i)) ∙ rw (ne-eqb why 0 (λ z. some (e ∙ z))) (ap (λ (k : ℕ). leaves was (record { code = k; label = 0; value = 0 }) (refuses k)) e)
+  loaded-none n w y p e some ey ep =
+      (λ i. leaves was (ey i) (ep i))
+      ∙ rw (ne-eqb why 0 (λ z. some (e ∙ z))) (ap (λ (k : ℕ). leaves was (record { code = k; label = 0; value = 0 }) (refuses k)) e)
 
   pub loaded-on : (n w : ℕ) → n ≡ why → n ≡ 0 → by (settleStart (recordOf was) s 1 w) ≡ loads-by w
   unfolding recordOf

@@ -12,7 +12,8 @@ use Rattle.model.specs.Refusals.{recordRefusal, stepSound}
 use Rattle.model.specs.Ends.{isMoved}
 use Rattle.model.proofs.tests.Truth.{split, by-test, not-both}
 use Rattle.threads_model.specs.declared.PlannedTouch.{PlannedTouch}
-use Rattle.threads_model.specs.Split.{knowing, planned, onRow, within, planUnasked, plan, Settled, gone, settledAt, meetsAnchor, settle, settleUnasked, placeRefusal}
+use Rattle.threads_model.specs.Split.{knowing, planned, onRow, within, planUnasked, plan, Settled}
+use Rattle.threads_model.specs.Split.{gone, settledAt, meetsAnchor, settle, settleUnasked, placeRefusal}
 use Rattle.threads.specs.Promises.{UnaskedStands}
 use Rattle.threads.proofs.split.ByRecord.{idle-plan, sound-none, low, high}
 use Rattle.threads.proofs.split.Within.{plans-within}

@@ -17,7 +17,8 @@ returns c at pooled =
 returns-2 : tie.Need-returns-2
 returns-2 c at pooled =
     let a = c .before .args in
-    plans-row pooled (a .slots) (a .r) 1 refl refl (at ∙ c .match .keys2) (ok.loaded pooled (a .slots) (a .r) (asks.plan1 pooled (a .slots) (a .r)) refl) _ (asks.plan1 pooled (a .slots) (a .r))
+    plans-row pooled (a .slots) (a .r) 1 refl refl (at ∙ c .match .keys2)
+    (ok.loaded pooled (a .slots) (a .r) (asks.plan1 pooled (a .slots) (a .r)) refl) _ (asks.plan1 pooled (a .slots) (a .r))
 
 returns-3 : tie.Need-returns-3
 returns-3 c at pooled =
@@ -42,7 +43,8 @@ returns-6 c at pooled =
 returns-7 : tie.Need-returns-7
 returns-7 c at pooled =
     let a = c .before .args in
-    plans-row pooled (a .slots) (a .r) 6 refl refl (at ∙ c .match .keys7) (ok.loaded pooled (a .slots) (a .r) (asks.plan6 pooled (a .slots) (a .r)) refl) _ (asks.plan6 pooled (a .slots) (a .r))
+    plans-row pooled (a .slots) (a .r) 6 refl refl (at ∙ c .match .keys7)
+    (ok.loaded pooled (a .slots) (a .r) (asks.plan6 pooled (a .slots) (a .r)) refl) _ (asks.plan6 pooled (a .slots) (a .r))
 
 returns-8 : tie.Need-returns-8
 returns-8 c at pooled =
@@ -52,7 +54,8 @@ returns-8 c at pooled =
 returns-9 : tie.Need-returns-9
 returns-9 c at pooled =
     let a = c .before .args in
-    plans-row pooled (a .slots) (a .r) 8 refl refl (at ∙ c .match .keys9) (ok.loaded pooled (a .slots) (a .r) (asks.plan8 pooled (a .slots) (a .r)) refl) _ (asks.plan8 pooled (a .slots) (a .r))
+    plans-row pooled (a .slots) (a .r) 8 refl refl (at ∙ c .match .keys9)
+    (ok.loaded pooled (a .slots) (a .r) (asks.plan8 pooled (a .slots) (a .r)) refl) _ (asks.plan8 pooled (a .slots) (a .r))
 
 returns-10 : tie.Need-returns-10
 returns-10 c at pooled =
@@ -72,7 +75,8 @@ returns-12 c at pooled =
 returns-13 : tie.Need-returns-13
 returns-13 c at pooled =
     let a = c .before .args in
-    plans-row pooled (a .slots) (a .r) 12 refl refl (at ∙ c .match .keys13) (ok.loaded pooled (a .slots) (a .r) (asks.plan12 pooled (a .slots) (a .r)) refl) _ (asks.plan12 pooled (a .slots) (a .r))
+    plans-row pooled (a .slots) (a .r) 12 refl refl (at ∙ c .match .keys13)
+    (ok.loaded pooled (a .slots) (a .r) (asks.plan12 pooled (a .slots) (a .r)) refl) _ (asks.plan12 pooled (a .slots) (a .r))
 
 returns-14 : tie.Need-returns-14
 returns-14 c at pooled =
@@ -91,7 +95,8 @@ returns-15 c at pooled =
 returns-16 : tie.Need-returns-16
 returns-16 c at pooled =
     let a = c .before .args in
-    plans-row pooled (a .slots) (a .r) 15 refl refl (at ∙ c .match .keys16) (ok.loaded pooled (a .slots) (a .r) (asks.plan15 pooled (a .slots) (a .r)) refl) _ (asks.plan15 pooled (a .slots) (a .r))
+    plans-row pooled (a .slots) (a .r) 15 refl refl (at ∙ c .match .keys16)
+    (ok.loaded pooled (a .slots) (a .r) (asks.plan15 pooled (a .slots) (a .r)) refl) _ (asks.plan15 pooled (a .slots) (a .r))
 
 returns-17 : tie.Need-returns-17
 returns-17 c at pooled =
