@@ -164,6 +164,15 @@ static zc_touch planned(uint64_t slots, const zc_record *own)
     }
 }
 
+/* Refused where it touches a slot that the queue does not have, which a sound record never names. */
+static zc_touch within(uint64_t slots, zc_touch next)
+{
+    switch (next.act) {
+    case ZC_NO_TOUCH: case ZC_LOAD_ANCHOR: case ZC_SWAP_ANCHOR: case ZC_LOAD_HEAD: case ZC_SWAP_HEAD: return next;
+    default: return slot_ok(next.slot, slots) ? next : none(ZC_UNSOUND);
+    }
+}
+
 zc_touch TOUCH_CALL(plan)(uint64_t slots, uint64_t pooled, const zc_record *own)
 {
     uint32_t why = record_refusal(own, slots, pooled);
@@ -335,7 +344,7 @@ zc_onward TOUCH_CALL(settle_unasked)(uint64_t slots, uint64_t pooled, zc_record 
     if (onward.reply.code == 0)
         onward.reply = settled(slots, pooled, own, found);
     uint32_t why = place_refusal(own);
-    onward.touch = why == 0 ? planned(slots, own) : none(why);
+    onward.touch = why == 0 ? within(slots, planned(slots, own)) : none(why);
     return onward;
 }
 
