@@ -8,7 +8,7 @@
 
 # The crates that export calls. All are proved first; then each is compiled for itself (`rt staticlib NAME`),
 # two at a time, the one that takes longest first. The library holds them all, and a program takes in only those whose calls it makes.
-EXPORTS = touch join shelf sheet serve capi schedule capi_run audit find capi_record waiting
+EXPORTS = touch touch_call join shelf sheet serve capi schedule capi_run audit find capi_record waiting
 
 # Two of `rt` in one folder overwrite each other's notes on what is proved, and one may then find a proved crate
 # unproved. So each has a folder, with links to the crates, to what is proved of them, and to where the archives go.

@@ -15,8 +15,8 @@
 #define EACH_CALL(of)                                                                              \
     of(open) of(open_pooled) of(push) of(push_pooled) of(pop) of(step) of(step_record) of(run)     \
     of(report) of(waiting) of(find) of(sheet) of(sheet_words) of(join) of(save) of(return)         \
-    of(next_schedule) of(serve) of(audit_words) of(plan) of(settle_plan) of(plan_start)            \
-    of(settle_start)
+    of(next_schedule) of(serve) of(audit_words) of(plan) of(settle_plan) of(settle_unasked)        \
+    of(plan_start) of(settle_start) of(start_loaded)
 
 /* An engine's calls, and two more steps by hand in C; in the library's place both are its step. */
 #define CALL_OF(name) __typeof__(&zc_##name) zc_##name;

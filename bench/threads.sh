@@ -58,7 +58,7 @@ tables() {
     echo
     echo "A step of \`zeppolecape_atomic.h\`, one thread: starts, touches and loops included in the first two figures."
     echo
-    echo "| queue | steps a pair | ns a step | instructions a step | of these zc_settle_plan |"
+    echo "| queue | steps a pair | ns a step | instructions a step | of these zc_settle_unasked |"
     echo "|---|---|---|---|---|"
     for way in named pooled; do
         steps=$("$work/threads" count $way $COUNTED)
@@ -69,7 +69,7 @@ tables() {
             valgrind --tool=callgrind --callgrind-out-file="$work/out" --toggle-collect='*counted_pairs*' "$work/threads" count $way $COUNTED >/dev/null 2>&1
             all=$(awk -v steps="$steps" '$1 == "summary:" { printf "%.0f", $2 / steps }' "$work/out")
             settled=$(callgrind_annotate --inclusive=yes --threshold=100 "$work/out" 2>/dev/null |
-                awk -v steps="$steps" '!found && /:zc_settle_plan/ { gsub(",", "", $1); printf "%.0f", $1 / steps; found = 1 }')
+                awk -v steps="$steps" '!found && /:zc_settle_unasked/ { gsub(",", "", $1); printf "%.0f", $1 / steps; found = 1 }')
         fi
         awk -v s="$steps" -v p=$COUNTED -v way=$way -v ns="$ns" -v all="$all" -v settled="$settled" \
             'BEGIN { printf "| %s | %.1f | %s | %s | %s |\n", way, s / p, ns, all, settled }'

@@ -9,6 +9,7 @@
 
 #define TAGS UINT64_C(0xffffffff00000000)
 #define ONE_TAG UINT64_C(0x100000000)
+#define SLOT_BITS UINT64_C(0x7fff)
 
 /* ---- Soundness --------------------------------------------------------------------------- */
 
@@ -62,11 +63,11 @@ static uint64_t end_of(uint64_t anchor, uint64_t side)
     return side == ZC_RIGHT ? zc_anchor_right(anchor) : zc_anchor_left(anchor);
 }
 
-/* Anchor as read with another status and another end at one side, and the next tag. */
+/* Anchor as read with another status and another end at one side, and the next tag. A number that is no side is the left. */
 static uint64_t moved(uint64_t seen, uint64_t status, uint64_t side, uint64_t end)
 {
-    uint64_t left = side == ZC_LEFT ? end : zc_anchor_left(seen);
-    uint64_t right = side == ZC_RIGHT ? end : zc_anchor_right(seen);
+    uint64_t left = side == ZC_RIGHT ? zc_anchor_left(seen) : end & SLOT_BITS;
+    uint64_t right = side == ZC_RIGHT ? end & SLOT_BITS : zc_anchor_right(seen);
     return (seen & TAGS) + ONE_TAG + (status << 30 | left << 15 | right);
 }
 
@@ -79,12 +80,14 @@ static uint64_t mended(const zc_record *own)
 /* What Anchor becomes at 2, 4 and 10. */
 static uint64_t anchor_after(const zc_record *own)
 {
-    uint64_t seen = own->seen, status = zc_anchor_status(seen), both = own->own << 15 | own->own;
-    if (own->place == 2)
-        return (seen & TAGS) + ONE_TAG + (status << 30 | both);
+    uint64_t seen = own->seen, status = zc_anchor_status(seen);
+    if (own->place == 2) {
+        uint64_t end = own->kind == ZC_PUSH ? own->own & SLOT_BITS : 0;
+        return (seen & TAGS) + ONE_TAG + (status << 30 | end << 15 | end);
+    }
     if (own->place == 10)
         return moved(seen, ZC_STABLE, ZC_RIGHT, zc_anchor_right(seen));
-    if (own->kind == ZC_POP)
+    if (own->kind != ZC_PUSH)
         return moved(seen, status, own->side, own->neighbour);
     return moved(seen, own->side == ZC_RIGHT ? ZC_RPUSH : ZC_LPUSH, own->side, own->own);
 }
@@ -119,14 +122,14 @@ static zc_touch touch(uint32_t act, uint64_t side, uint64_t slot, uint64_t expec
 
 static zc_touch load(uint32_t act) { return touch(act, 0, 0, 0, 0); }
 
-zc_touch TOUCH_CALL(plan)(uint64_t slots, uint64_t pooled, const zc_record *own)
+static zc_touch none(uint32_t why) { return touch(ZC_NO_TOUCH, 0, 0, 0, why); }
+
+/* At a place from 1 to 17; of the record no more is asked than the row it needs. */
+static zc_touch planned(uint64_t slots, const zc_record *own)
 {
-    uint32_t why = record_refusal(own, slots, pooled);
-    if (why == 0 && needs_row(own) && !slot_ok(row_of(own), slots))
-        why = ZC_UNSOUND;
-    if (why != 0)
-        return touch(ZC_NO_TOUCH, 0, 0, 0, why);
-    uint64_t row = row_of(own), inward = 1 - own->side, outward = mended(own);
+    if (needs_row(own) && !slot_ok(row_of(own), slots))
+        return none(ZC_UNSOUND);
+    uint64_t row = row_of(own), inward = own->side != ZC_RIGHT, outward = mended(own);
     uint64_t top = zc_link_slot(own->link), later = (own->link & TAGS) + ONE_TAG;
     bool room = own->link < TAGS;
     switch (own->place) {
@@ -135,7 +138,7 @@ zc_touch TOUCH_CALL(plan)(uint64_t slots, uint64_t pooled, const zc_record *own)
             return load(ZC_LOAD_ANCHOR);
         return touch(ZC_SWAP_ANCHOR, 0, 0, own->seen, anchor_after(own));
     case 3:
-        if (own->kind == ZC_POP)
+        if (own->kind != ZC_PUSH)
             return touch(ZC_LOAD_LINK, inward, row, 0, 0);
         return touch(ZC_PUT_LINK, inward, row, 0, end_of(own->seen, own->side));
     case 5: return touch(ZC_LOAD_LINK, 1 - outward, row, 0, 0);
@@ -150,14 +153,30 @@ zc_touch TOUCH_CALL(plan)(uint64_t slots, uint64_t pooled, const zc_record *own)
     case 14:
         if (!room)
             return load(ZC_LOAD_HEAD);
-        return (zc_touch){ZC_DRAW_SLOT, own->label, 0, top, own->link, later | own->neighbour};
+        return (zc_touch){ZC_DRAW_SLOT, own->label, 0, top, own->link,
+                          later | (own->neighbour & SLOT_BITS)};
     case 16: return touch(ZC_STORE_NEXT, 0, own->own, 0, top);
     case 17:
         if (!room)
             return load(ZC_LOAD_HEAD);
-        return touch(ZC_SWAP_HEAD, 0, 0, own->link, later | own->own);
+        return touch(ZC_SWAP_HEAD, 0, 0, own->link, later | (own->own & SLOT_BITS));
     default: return load(ZC_LOAD_ANCHOR);
     }
+}
+
+/* Refused where it touches a slot that the queue does not have, which a sound record never names. */
+static zc_touch within(uint64_t slots, zc_touch next)
+{
+    switch (next.act) {
+    case ZC_NO_TOUCH: case ZC_LOAD_ANCHOR: case ZC_SWAP_ANCHOR: case ZC_LOAD_HEAD: case ZC_SWAP_HEAD: return next;
+    default: return slot_ok(next.slot, slots) ? next : none(ZC_UNSOUND);
+    }
+}
+
+zc_touch TOUCH_CALL(plan)(uint64_t slots, uint64_t pooled, const zc_record *own)
+{
+    uint32_t why = record_refusal(own, slots, pooled);
+    return why == 0 ? planned(slots, own) : none(why);
 }
 
 /* ---- What comes of it -------------------------------------------------------------------- */
@@ -176,9 +195,20 @@ static zc_reply answer(zc_record *own, uint32_t code, uint32_t label, uint64_t s
     return (zc_reply){code, label, slot};
 }
 
+/* To a place that only pushes have, or only pops: a record that is not of that kind goes to 0. */
+static zc_reply push_goes(zc_record *own, uint64_t place)
+{
+    return go(own, own->kind == ZC_PUSH ? place : 0);
+}
+
+static zc_reply pop_goes(zc_record *own, uint64_t place)
+{
+    return go(own, own->kind == ZC_PUSH ? 0 : place);
+}
+
 static zc_reply leave(zc_record *own)
 {
-    return own->finishing ? answer(own, ZC_PUSHED, 0, 0) : go(own, 1);
+    return own->finishing == 1 ? answer(own, ZC_PUSHED, 0, 0) : go(own, 1);
 }
 
 static zc_record *retry(zc_record *own)
@@ -190,10 +220,11 @@ static zc_record *retry(zc_record *own)
 static zc_reply reading(zc_record *own, uint64_t found)
 {
     uint64_t left = zc_anchor_left(found), right = zc_anchor_right(found);
+    bool empty = left == 0 && right == 0;
     own->seen = found;
-    if (left == 0 && own->kind == ZC_POP)
+    if (empty && own->kind != ZC_PUSH)
         return answer(own, ZC_EMPTY, 0, 0);
-    if (left == 0 || (left == right && own->kind == ZC_POP))
+    if (empty || (left == right && own->kind == ZC_POP))
         return go(own, 2);
     return go(own, zc_anchor_status(found) == ZC_STABLE ? 3 : 5);
 }
@@ -203,7 +234,7 @@ static zc_reply changed(zc_record *own, uint64_t slots)
     uint64_t wanted = anchor_after(own);
     if (!anchor_may(own, slots))
         return refuse(ZC_UNSOUND);
-    if (own->kind == ZC_POP)
+    if (own->kind != ZC_PUSH)
         return go(own, 11);
     if (own->place == 2)
         return answer(own, ZC_PUSHED, 0, 0);
@@ -214,8 +245,8 @@ static zc_reply changed(zc_record *own, uint64_t slots)
 
 static zc_reply on_anchor(zc_record *own, uint64_t found, uint64_t slots)
 {
-    bool same = found == own->seen;
-    if (!anchor_ok(found, slots))
+    bool same = found == own->seen; /* then it was tested with the record, or nothing is */
+    if (!same && !anchor_ok(found, slots))
         return refuse(ZC_UNSOUND);
     switch (own->place) {
     case 1: return reading(own, found);
@@ -244,12 +275,12 @@ static zc_reply on_row(zc_record *own, uint64_t found, uint64_t slots, uint64_t 
         return found < TAGS ? go(own, 10) : refuse(ZC_UNSOUND);
     case 11:
         if (pooled != 1)
-            return answer(own, ZC_POPPED, label, row);
+            return own->kind == ZC_PUSH ? go(own, 0) : answer(own, ZC_POPPED, label, row);
         own->own = row;
         own->label = label;
-        return go(own, 15);
+        return pop_goes(own, 15);
     default: /* 3 and 5; of a push at 3 the link is its own */
-        if (own->place == 5 || own->kind == ZC_POP)
+        if (own->place == 5 || own->kind != ZC_PUSH)
             own->neighbour = zc_link_slot(found);
         return go(own, own->place + 1);
     }
@@ -262,40 +293,58 @@ static zc_reply on_pool(zc_record *own, uint64_t found, uint64_t slots)
     case 12: case 15:
         if (!link_ok(found, slots))
             return refuse(ZC_UNSOUND);
-        if (own->place == 12 && zc_link_slot(found) == 0)
+        if (own->place == 12 && own->kind == ZC_PUSH && zc_link_slot(found) == 0)
             return answer(own, ZC_NO_FREE_SLOT, 0, 0);
         own->link = found;
-        return go(own, own->place + 1);
+        return own->place == 12 ? push_goes(own, 13) : pop_goes(own, 16);
     case 13:
         if (found > slots)
             return refuse(ZC_UNSOUND);
         own->neighbour = found;
-        return go(own, 14);
-    case 16: return go(own, 17);
+        return push_goes(own, 14);
+    case 16: return pop_goes(own, 17);
     default: break;
     }
     if (!same)
-        return go(retry(own), own->place == 14 ? 12 : 15);
+        return own->place == 14 ? push_goes(retry(own), 12) : pop_goes(retry(own), 15);
     if (found >= TAGS)
         return refuse(ZC_UNSOUND);
     if (own->place == 17)
-        return answer(own, ZC_POPPED, own->label, own->own);
+        return own->kind == ZC_PUSH ? go(own, 0) : answer(own, ZC_POPPED, own->label, own->own);
     own->own = zc_link_slot(found);
-    return go(own, 1);
+    return push_goes(own, 1);
+}
+
+/* At a place from 1 to 17. */
+static zc_reply settled(uint64_t slots, uint64_t pooled, zc_record *own, uint64_t found)
+{
+    if (needs_row(own))
+        return on_row(own, found, slots, pooled);
+    return own->place <= 10 ? on_anchor(own, found, slots) : on_pool(own, found, slots);
 }
 
 zc_onward TOUCH_CALL(settle_plan)(uint64_t slots, uint64_t pooled, zc_record *own, uint64_t found)
 {
     zc_onward onward = {refuse(record_refusal(own, slots, pooled)), {0, 0, 0, 0, 0, 0}};
-    if (onward.reply.code == 0) {
-        if (needs_row(own))
-            onward.reply = on_row(own, found, slots, pooled);
-        else if (own->place <= 10)
-            onward.reply = on_anchor(own, found, slots);
-        else
-            onward.reply = on_pool(own, found, slots);
-    }
+    if (onward.reply.code == 0)
+        onward.reply = settled(slots, pooled, own, found);
     onward.touch = TOUCH_CALL(plan)(slots, pooled, own);
+    return onward;
+}
+
+/* Asked of a record that is known to be sound. */
+static uint32_t place_refusal(const zc_record *own)
+{
+    return own->place == 0 ? ZC_IDLE : own->place > 17 ? ZC_UNSOUND : 0;
+}
+
+zc_onward TOUCH_CALL(settle_unasked)(uint64_t slots, uint64_t pooled, zc_record *own, uint64_t found)
+{
+    zc_onward onward = {refuse(place_refusal(own)), {0, 0, 0, 0, 0, 0}};
+    if (onward.reply.code == 0)
+        onward.reply = settled(slots, pooled, own, found);
+    uint32_t why = place_refusal(own);
+    onward.touch = why == 0 ? within(slots, planned(slots, own)) : none(why);
     return onward;
 }
 
@@ -322,7 +371,7 @@ zc_touch TOUCH_CALL(plan_start)(uint64_t slots, uint64_t pooled, const zc_record
                                 const zc_start *start)
 {
     uint32_t why = start_refusal(slots, pooled, own, start);
-    return why == 0 ? load(ZC_LOAD_ANCHOR) : touch(ZC_NO_TOUCH, 0, 0, 0, why);
+    return why == 0 ? load(ZC_LOAD_ANCHOR) : none(why);
 }
 
 zc_onward TOUCH_CALL(settle_start)(uint64_t slots, uint64_t pooled, zc_record *own,
@@ -352,4 +401,13 @@ zc_onward TOUCH_CALL(settle_start)(uint64_t slots, uint64_t pooled, zc_record *o
     }
     onward.touch = TOUCH_CALL(plan)(slots, pooled, own);
     return onward;
+}
+
+zc_onward TOUCH_CALL(start_loaded)(uint64_t slots, uint64_t pooled, zc_record *own,
+                                   const zc_start *start, uint64_t anchor)
+{
+    uint32_t why = start_refusal(slots, pooled, own, start);
+    if (why != 0)
+        return (zc_onward){refuse(why), none(why)};
+    return TOUCH_CALL(settle_start)(slots, pooled, own, start, ZC_LOAD_ANCHOR, anchor);
 }

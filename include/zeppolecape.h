@@ -119,7 +119,7 @@ extern "C" {
  * again. Minor: something was added. Patch: neither.
  */
 #define ZC_VERSION_MAJOR 5
-#define ZC_VERSION_MINOR 0
+#define ZC_VERSION_MINOR 1
 #define ZC_VERSION_PATCH 0
 #define ZC_VERSION (ZC_VERSION_MAJOR * 10000 + ZC_VERSION_MINOR * 100 + ZC_VERSION_PATCH)
 

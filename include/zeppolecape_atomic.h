@@ -71,9 +71,10 @@
  * accounted for. Once no thread is in a call memory is the queue of the list, from which plain calls go
  * on. A start or step is at most three of these instructions and the writing of its record, whatever
  * the others do, and among the steps some call takes effect or answers (Consequences.antt beside it).
- * The four calls below are proved to do what these theorems say of them, for all records and words.
+ * The six calls below are proved to do what these theorems say of them, for all records and words.
  * Not proved, but tested: the C in this file, a table of thirteen touches (zc_made) and the loops
- * around it.
+ * around it. (A start loads Anchor before it is asked its own numbers; where those refuse it, the word
+ * is not looked at.)
  *
  * ORDER. Every access to a shared word but a label is sequentially consistent, and the proved calls
  * reach none. By the rules of C11 and C++11 all these accesses then have one order that agrees with
@@ -175,6 +176,17 @@ zc_touch zc_plan_start(uint64_t slots, uint64_t pooled, const zc_record *own,
  */
 zc_onward zc_settle_start(uint64_t slots, uint64_t pooled, zc_record *own, const zc_start *start,
                           uint32_t act, uint64_t found);
+
+/* Both in one call, for an Anchor that is loaded already: refused as either refuses, or settled. */
+zc_onward zc_start_loaded(uint64_t slots, uint64_t pooled, zc_record *own, const zc_start *start,
+                          uint64_t anchor);
+
+/*
+ * zc_settle_plan for a record that nobody has written since a start or a settlement left it: such a
+ * one is sound, which is proved, and is tested for its place alone. Whatever a record holds, a touch
+ * that is planned names a slot of 1 to slots.
+ */
+zc_onward zc_settle_unasked(uint64_t slots, uint64_t pooled, zc_record *own, uint64_t found);
 
 /* ---- A queue that is shared --------------------------------------------------------------- */
 
@@ -341,14 +353,9 @@ static inline zc_reply zc_refused_by(uint64_t number)
 static inline void zc_begin(const zc_shared *shared, zc_record *own, const zc_start *start,
                             zc_onward *onward)
 {
-    onward->touch = zc_plan_start(shared->slots, shared->pooled, own, start);
-    onward->reply = zc_refused_by(onward->touch.word);
-    if (onward->touch.act == ZC_NO_TOUCH)
-        return;
-    ZC_BETWEEN();
     uint64_t found = zc_loaded(shared->anchor);
     ZC_BETWEEN();
-    *onward = zc_settle_start(shared->slots, shared->pooled, own, start, ZC_LOAD_ANCHOR, found);
+    *onward = zc_start_loaded(shared->slots, shared->pooled, own, start, found);
     if (onward->reply.code == ZC_STARTING) {
         uint32_t act = onward->touch.act;
         ZC_BETWEEN();
@@ -391,7 +398,7 @@ static inline zc_reply zc_told(const zc_reply *reply)
     return told;
 }
 
-/* Starts a call and steps it to its answer. */
+/* Starts a call and steps it to its answer. From the start on its record is known to be sound. */
 static inline zc_reply zc_answer_to(const zc_shared *shared, zc_record *own, const zc_start *start)
 {
     if (shared->refusal != 0)
@@ -405,7 +412,7 @@ static inline zc_reply zc_answer_to(const zc_shared *shared, zc_record *own, con
     uint64_t found = zc_made(shared, &begun.touch);
     for (;;) {
         ZC_BETWEEN();
-        zc_onward onward = zc_settle_plan(shared->slots, shared->pooled, own, found);
+        zc_onward onward = zc_settle_unasked(shared->slots, shared->pooled, own, found);
         if (onward.reply.code != ZC_RUNNING)
             return zc_told(&onward.reply);
         if (own->retries != failed) {
@@ -450,7 +457,7 @@ static inline zc_reply zc_atomic_pop(const zc_shared *shared, zc_record *own, ui
 /* ---- One touch at a time ------------------------------------------------------------------
  * For a thread that interleaves the calls of several records, or its calls with other work: a start,
  * then steps while they answer running. A whole call is faster: it plans a step while it settles the
- * one before (zc_settle_plan). Steps wait for nothing; whoever steps a call that fails again and again
+ * one before, and tests its record once. Steps wait for nothing; whoever steps a call that fails again and again
  * may call zc_back_off in between.
  */
 

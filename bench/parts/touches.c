@@ -12,8 +12,10 @@ enum { SAMPLES = 2000, STEPS = 40 * SAMPLES };
 static const struct line lines[] = {
     TOUCH(zc_plan, "named"),        TOUCH(zc_plan, "pooled"),
     TOUCH(zc_settle_plan, "named"), TOUCH(zc_settle_plan, "pooled"),
+    TOUCH(zc_settle_unasked, "named"), TOUCH(zc_settle_unasked, "pooled"),
     TOUCH(zc_plan_start, "named"),  TOUCH(zc_plan_start, "pooled"),
     TOUCH(zc_settle_start, "named"), TOUCH(zc_settle_start, "pooled"),
+    TOUCH(zc_start_loaded, "named"), TOUCH(zc_start_loaded, "pooled"),
 };
 
 /* A record, and what a step or a start then met. */
@@ -66,8 +68,8 @@ static void begin(const struct line *line)
 {
     take_sizes(line);
     call = line->call;
-    bool starting = call == FIELD(zc_plan_start) || call == FIELD(zc_settle_start);
-    samples = starting ? start_samples : step_samples;
+    bool stepping = call == FIELD(zc_plan) || call == FIELD(zc_settle_plan) || call == FIELD(zc_settle_unasked);
+    samples = stepping ? step_samples : start_samples;
     size_t made = draw_moves(moves, STEPS);
     zc_shared shared = share();
     starts_kept = steps_kept = 0;
@@ -105,6 +107,10 @@ static uint64_t one(const struct calls *calls, const struct sample *sample, zc_r
     }
     if (call == FIELD(zc_settle_plan))
         onward = calls->zc_settle_plan(slots, pooled, own, sample->found);
+    else if (call == FIELD(zc_settle_unasked))
+        onward = calls->zc_settle_unasked(slots, pooled, own, sample->found);
+    else if (call == FIELD(zc_start_loaded))
+        onward = calls->zc_start_loaded(slots, pooled, own, &sample->start, sample->found);
     else
         onward = calls->zc_settle_start(slots, pooled, own, &sample->start, sample->act, sample->found);
     return mix_touch(mix_reply(sum, onward.reply), &onward.touch);

@@ -82,7 +82,7 @@ zc_reply finish(Queue &queue, zc_record *own, zc_touch touch, Call &call)
         pause_sometimes();
         if (moves && found == touch.expected)
             call.tag = touch.word >> 32;
-        onward = zc_settle_plan(queue.slots, queue.pooled, own, found);
+        onward = zc_settle_unasked(queue.slots, queue.pooled, own, found);
         if (onward.reply.code == ZC_EMPTY) {
             call.tag = found >> 32;
             call.found = true;

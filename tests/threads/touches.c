@@ -2,7 +2,7 @@
  * The table of touches in zeppolecape_atomic.h, one thread: a step split at its touch does what
  * zc_step_record does, and a start what zc_push, zc_push_pooled and zc_pop do, on a copy of the same
  * tables: same answer, same record, same words, refusals too. Tables and records are random, sound or
- * damaged. Then the four proved calls are compared with the same by hand in C, on any records and words.
+ * damaged. Then the six proved calls are compared with the same by hand in C, on any records and words.
  *
  *     touches [TRIALS [SEED]]
  */
@@ -139,11 +139,15 @@ static int one_step(void)
         split.control.anchor |= UINT64_C(3) << 30; /* unsound, where the step meets it */
     whole = split;
     static uint64_t steps;
+    uint64_t way = steps++ % 3; /* the third asks a record nothing, and so is given one that has a plan */
     zc_reply a;
-    if (steps++ % 2 == 0) {
+    if (way == 0) {
         a = zc_atomic_step(&shared, &split.record);
     } else {
-        zc_onward onward = zc_settle_plan(shared.slots, shared.pooled, &split.record, zc_made(&shared, &touch));
+        uint64_t found = zc_made(&shared, &touch);
+        zc_onward onward = way == 1 || act == ZC_NO_TOUCH
+                               ? zc_settle_plan(shared.slots, shared.pooled, &split.record, found)
+                               : zc_settle_unasked(shared.slots, shared.pooled, &split.record, found);
         if (!planned(&shared, &split.record, &onward.touch))
             return puts("FAILED the touch told after a step is not the record's plan"), 0;
         a = onward.reply;
@@ -187,21 +191,21 @@ static int one_start(void)
 /* ---- The proved calls and the same by hand -------------------------------------------------- */
 
 /* How often each call gave each answer; a plan's is 0, or the number of its refusal. */
-enum { PLAN, SETTLE_PLAN, PLAN_START, SETTLE_START, CALLS };
+enum { PLAN, SETTLE_PLAN, SETTLE_UNASKED, PLAN_START, SETTLE_START, START_LOADED, CALLS };
 static uint64_t met[CALLS][64];
-
-static uint64_t of_plan(zc_touch touch) { return touch.act == ZC_NO_TOUCH ? touch.word % 64 : 0; }
+static const struct {
+    const char *name;
+    uint64_t codes[8], count;
+} calls[CALLS] = {{"zc_plan", {0, 31, 34}, 3},
+                  {"zc_settle_plan", {1, 2, 3, 4, 5, 31, 34}, 7},
+                  {"zc_settle_unasked", {1, 2, 3, 4, 5, 31, 34}, 7},
+                  {"zc_plan_start", {0, 14, 15, 30, 34, 41}, 6},
+                  {"zc_settle_start", {0, 1, 32, 33}, 4},
+                  {"zc_start_loaded", {0, 1, 14, 15, 30, 33, 34, 41}, 8}};
 
 /* Every answer that the header lists was met, and no other. */
 static void every_answer(void)
 {
-    static const struct {
-        const char *name;
-        uint64_t codes[8], count;
-    } calls[CALLS] = {{"zc_plan", {0, 31, 34}, 3},
-                      {"zc_settle_plan", {1, 2, 3, 4, 5, 31, 34}, 7},
-                      {"zc_plan_start", {0, 14, 15, 30, 34, 41}, 6},
-                      {"zc_settle_start", {0, 1, 32, 33}, 4}};
     for (size_t call = 0; call < CALLS; call++) {
         uint64_t all = 0, listed = 0;
         for (size_t code = 0; code < 64; code++)
@@ -218,9 +222,23 @@ static void every_answer(void)
     }
 }
 
-static int same_onward(zc_onward a, zc_onward b)
+/* Whether two plans are the same, which is counted. */
+static int same_plan(size_t call, zc_touch a, zc_touch b)
 {
-    return same_reply(a.reply, b.reply) && memcmp(&a.touch, &b.touch, sizeof a.touch) == 0;
+    met[call][b.act == ZC_NO_TOUCH ? b.word % 64 : 0]++;
+    if (memcmp(&a, &b, sizeof a) == 0)
+        return 1;
+    return printf("FAILED by hand: %s\n", calls[call].name), 0;
+}
+
+/* The same of two settlements, and of the records that they left. */
+static int same_onward(size_t call, zc_onward a, zc_onward b, const zc_record *one, const zc_record *other)
+{
+    met[call][b.reply.code % 64]++;
+    if (same_reply(a.reply, b.reply) && memcmp(&a.touch, &b.touch, sizeof a.touch) == 0 &&
+        memcmp(one, other, sizeof *one) == 0)
+        return 1;
+    return printf("FAILED by hand: %s\n", calls[call].name), 0;
 }
 
 static uint64_t any_word(uint64_t slots)
@@ -233,6 +251,60 @@ static uint64_t any_word(uint64_t slots)
     }
 }
 
+/* Up to four fields with any word at all, or a number as small as a place. */
+static void damage(zc_record *r, uint64_t slots)
+{
+    static const size_t fields[] = {0, 1, 2, 3, 5, 6, 7, 8, 9}; /* not the label */
+    for (uint64_t left = draw(5); left > 0; left--)
+        ((uint64_t *)r)[fields[draw(9)]] = once_in(2) ? any_word(slots + 1) : draw(20);
+}
+
+static uint64_t any_found(const zc_record *r, uint64_t slots)
+{
+    const uint64_t likely[] = {r->seen, r->link, any_word(slots + 1)};
+    return likely[draw(3)];
+}
+
+static int steps_by_hand(uint64_t slots, uint64_t pooled, const zc_record *r)
+{
+    zc_record one = *r, other = *r;
+    uint64_t found = any_found(r, slots);
+    if (!same_plan(PLAN, zc_plan(slots, pooled, &one), reference_plan(slots, pooled, &other)))
+        return 0;
+    zc_onward a = zc_settle_plan(slots, pooled, &one, found);
+    zc_onward b = reference_settle_plan(slots, pooled, &other, found);
+    if (!same_onward(SETTLE_PLAN, a, b, &one, &other))
+        return 0;
+    one = *r;
+    damage(&one, slots);
+    other = one;
+    found = any_found(&one, slots);
+    a = zc_settle_unasked(slots, pooled, &one, found);
+    b = reference_settle_unasked(slots, pooled, &other, found);
+    return same_onward(SETTLE_UNASKED, a, b, &one, &other);
+}
+
+static int starts_by_hand(uint64_t slots, uint64_t pooled, const zc_record *r, zc_start start)
+{
+    zc_record one = *r, other = *r;
+    uint64_t found = any_word(slots + 1);
+    zc_onward a = zc_start_loaded(slots, pooled, &one, &start, found);
+    zc_onward b = reference_start_loaded(slots, pooled, &other, &start, found);
+    if (!same_onward(START_LOADED, a, b, &one, &other))
+        return 0;
+    one = other = *r;
+    zc_touch first = zc_plan_start(slots, pooled, &one, &start);
+    if (!same_plan(PLAN_START, first, reference_plan_start(slots, pooled, &other, &start)))
+        return 0;
+    if (first.act == ZC_NO_TOUCH)
+        return 1;
+    uint32_t act = start.operation == ZC_ASK_PUSH ? (uint32_t[]){1, 12, 13}[draw(3)] : first.act;
+    found = act == ZC_LOAD_ANCHOR ? any_word(slots + 1) : draw(2);
+    a = zc_settle_start(slots, pooled, &one, &start, act, found);
+    b = reference_settle_start(slots, pooled, &other, &start, act, found);
+    return same_onward(SETTLE_START, a, b, &one, &other);
+}
+
 static int one_by_hand(void)
 {
     static struct tables t;
@@ -240,36 +312,11 @@ static int one_by_hand(void)
     any_record(&t);
     uint64_t slots = once_in(50) ? draw(ZC_MOST_SLOTS + 1) : t.control.slots;
     uint64_t pooled = once_in(50) ? draw(4) : t.control.pooled;
-    const uint64_t likely[] = {t.record.seen, t.record.link, any_word(slots + 1)};
-    uint64_t found = likely[draw(3)];
-    zc_record one = t.record, other = t.record;
-    zc_touch a = zc_plan(slots, pooled, &one), b = reference_plan(slots, pooled, &other);
-    met[PLAN][of_plan(b)]++;
-    if (memcmp(&a, &b, sizeof a) != 0)
-        return printf("FAILED by hand: a plan at place %u\n", (unsigned)t.record.place), 0;
-    zc_onward settled = reference_settle_plan(slots, pooled, &other, found);
-    met[SETTLE_PLAN][settled.reply.code % 64]++;
-    if (!same_onward(zc_settle_plan(slots, pooled, &one, found), settled) ||
-        memcmp(&one, &other, sizeof one) != 0)
-        return printf("FAILED by hand: a settlement at place %u\n", (unsigned)t.record.place), 0;
+    if (!steps_by_hand(slots, pooled, &t.record))
+        return 0;
     if (!once_in(5))
-        one.place = other.place = 0;
-    zc_start start = any_start(t.control.slots);
-    a = zc_plan_start(slots, pooled, &one, &start);
-    b = reference_plan_start(slots, pooled, &other, &start);
-    met[PLAN_START][of_plan(b)]++;
-    if (memcmp(&a, &b, sizeof a) != 0)
-        return puts("FAILED by hand: the plan of a start"), 0;
-    if (a.act == ZC_NO_TOUCH)
-        return 1;
-    uint32_t act = start.operation == ZC_ASK_PUSH ? (uint32_t[]){1, 12, 13}[draw(3)] : a.act;
-    found = act == ZC_LOAD_ANCHOR ? any_word(slots + 1) : draw(2);
-    settled = reference_settle_start(slots, pooled, &other, &start, act, found);
-    met[SETTLE_START][settled.reply.code % 64]++;
-    if (!same_onward(zc_settle_start(slots, pooled, &one, &start, act, found), settled) ||
-        memcmp(&one, &other, sizeof one) != 0)
-        return puts("FAILED by hand: the settlement of a start"), 0;
-    return 1;
+        t.record.place = 0;
+    return starts_by_hand(slots, pooled, &t.record, any_start(t.control.slots));
 }
 
 /* Trials of a kind, until one fails. */

@@ -124,26 +124,26 @@ impl Cells {
     /// Starts a call: running, with its first step planned, or refused. The first touch is the load
     /// of Anchor; a push that names a slot has one more, of the slot's mark.
     pub fn begun(&self, own: &mut Record, start: &Start) -> Onward {
-        // SAFETY: record and start are lent for the call.
-        let touch = unsafe { raw::zc_plan_start(self.slots, self.pooled, own, start) };
-        if touch.act == raw::NO_TOUCH {
-            let reply = raw::Reply { code: touch.word as u32, label: 0, value: 0 };
-            return Onward { reply, touch };
-        }
-        let mut settled = |act, found| {
-            // SAFETY: as above, and nobody else has either.
-            unsafe { raw::zc_settle_start(self.slots, self.pooled, own, start, act, found) }
-        };
-        let onward = settled(raw::LOAD_ANCHOR, load(&self.anchor.0));
+        let anchor = load(&self.anchor.0);
+        // SAFETY: record and start are lent for the call, and nobody else has either.
+        let onward = unsafe { raw::zc_start_loaded(self.slots, self.pooled, own, start, anchor) };
         if onward.reply.code != raw::STARTING {
             return onward;
         }
-        settled(onward.touch.act, self.made(&onward.touch))
+        let (act, found) = (onward.touch.act, self.made(&onward.touch));
+        // SAFETY: as above.
+        unsafe { raw::zc_settle_start(self.slots, self.pooled, own, start, act, found) }
     }
 
     /// What a step comes to whose touch has found a word.
     pub fn settled(&self, own: &mut Record, found: u64) -> Onward {
         // SAFETY: the record is lent for the call, and nobody else has it.
         unsafe { raw::zc_settle_plan(self.slots, self.pooled, own, found) }
+    }
+
+    /// The same for a record as a start or a settlement left it: it is not tested again.
+    pub fn settled_unasked(&self, own: &mut Record, found: u64) -> Onward {
+        // SAFETY: as above.
+        unsafe { raw::zc_settle_unasked(self.slots, self.pooled, own, found) }
     }
 }

@@ -198,8 +198,10 @@ impl Handle<'_> {
 
     /// Steps the call that was started to its answer. Refuses 31.
     pub fn finish(&mut self) -> Result<Answer, Refusal> {
-        let found = self.cells.made(&self.seat.touch);
-        self.ends(found)
+        match self.step()? {
+            Answer::Running(_) => self.ends(self.cells.made(&self.seat.touch)),
+            answer => Ok(answer),
+        }
     }
 
     /// The record: where the task stands in its call, and its count of retries.
@@ -239,12 +241,13 @@ impl Handle<'_> {
         self.ends(found)
     }
 
-    /// The same from the word that the touch before found. Each settlement has a place of its own, from
-    /// which its touch is made: one kept across turns would be copied, by loads over stores just made.
+    /// The same from the word that the touch before found, after a start or a step: these leave a sound
+    /// record. Each settlement has a place of its own, from which its touch is made: one kept across
+    /// turns would be copied, by loads over stores just made.
     fn ends(&mut self, mut found: u64) -> Result<Answer, Refusal> {
         let mut failed = self.seat.record.retries;
         loop {
-            let onward = self.cells.settled(&mut self.seat.record, found);
+            let onward = self.cells.settled_unasked(&mut self.seat.record, found);
             if onward.reply.code != raw::RUNNING {
                 self.seat.touch = onward.touch;
                 return outcome(onward.reply);

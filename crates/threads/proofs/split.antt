@@ -1,5 +1,5 @@
 -- A step split at its touch: place by place the three parts are the step (Stands); a plan names a slot of the queue (Within); a settlement leaves a sound
--- record, so that the next plan need not test it (StaysSound).
+-- record (StaysSound), and so does a start (FirstCalls), so that the record need not be asked again (Unasked).
 pub mod Touches
 pub mod Settlement
 pub mod EarlyPlaces
@@ -11,3 +11,5 @@ pub mod Within
 pub mod SoundFields
 pub mod SoundEarly
 pub mod StaysSound
+pub mod Unasked
+pub mod FirstCalls

@@ -1,10 +1,10 @@
 -- What is promised of split steps, and of threads that interleave at single instructions.
 use mathlib.Core.Path.{_≡_}
-use mathlib.Core.Bool.{Bool, true, false, _&&_, _||_, cond}
+use mathlib.Core.Bool.{Bool, true, false, cond}
 use mathlib.Core.List.{List, [], _++_}
 use mathlib.Core.Logic.{_≢_}
 use Prim.Native.Nat.{ℕ, _<_}
-use lib.Dec.{leb}
+use lib.Dec.{eqb}
 use lib.ListN.{getD, set}
 use Rattle.model.specs.declared.Call.{Call}
 use Rattle.model.specs.declared.Record.{Record}
@@ -12,15 +12,15 @@ use Rattle.model.specs.declared.Outcome.{Outcome}
 use Rattle.model.specs.declared.Outcome.the-variants.{Refused}
 use Rattle.model.specs.declared.Opening.the-variants.{Opened}
 use Rattle.model.specs.Tables.{Tables, Queue, taskAt, marked}
-use Rattle.model.specs.Sound.{from1}
+use Rattle.model.specs.Sound.{from1, recordSound}
 use Rattle.model.specs.Refusals.{admission, alone, fits, late}
 use Rattle.model.specs.Calls.{act, openAs, stepLent}
 use Rattle.model.specs.History.{Event, LedgerCall, Lawful, Request, final, ledger, run}
 use Rattle.model.specs.Walk.{contents, entries}
 use Rattle.model.specs.Lists.{All}
-use Rattle.threads_model.specs.Split.{plan, splitStep}
+use Rattle.threads_model.specs.Split.{plan, onRow, planUnasked, settle, settleUnasked, splitStep}
 use Rattle.threads_model.specs.declared.Start.{Start}
-use Rattle.threads_model.specs.Starts.{isNamed, planStart}
+use Rattle.threads_model.specs.Starts.{isNamed, startWhy, planStart, firstCall}
 use Rattle.threads_model.specs.Turns.{Turn, takeEarly, runTurns, finalTurns}
 use Rattle.threads_model.specs.Instructions.{Hand, free, begun, loaded, knows, claims, looks, labels, marks, ends}
 use Rattle.threads_model.specs.Instructions.{Ticked, tick, withLabels, labelTouched}
@@ -31,16 +31,29 @@ use Rattle.threads_model.specs.Crew.{Crew, Act, allFree, Known, goOn, turns, to
 abbrev pub SplitStands : Type 0
 SplitStands = (q : Tables) (r : Record) → admission (q .control) (fits q) alone ≡ 0 → splitStep q r ≡ stepLent q r
 
--- The touches of a slot's row, its label or its mark: 3 to 6 and 9 to 11. They name a slot, 1 to slots, whatever the record holds.
-abbrev pub onRow : ℕ → Bool
-onRow act = (leb 3 act && leb act 6) || leb 9 act
-
+-- A touch of a slot's row, its label or its mark names a slot, 1 to slots, whatever the record holds; asked or not.
 abbrev pub PlansWithin : Type 0
 PlansWithin = (pooled slots : ℕ) (r : Call) → onRow (plan pooled slots r .act) ≡ true → from1 slots (plan pooled slots r .slot) ≡ true
+
+abbrev pub UnaskedWithin : Type 0
+UnaskedWithin =
+    (pooled slots : ℕ) (r : Call) → onRow (planUnasked pooled slots r .act) ≡ true → from1 slots (planUnasked pooled slots r .slot) ≡ true
 
 -- A start that gets as far as its touches is for a slot of 1 to slots, if it names one (12 and 13 are of that slot).
 abbrev pub StartsWithin : Type 0
 StartsWithin = (pooled slots : ℕ) (r : Call) (s : Start) → planStart pooled slots r s .act ≡ 1 → isNamed s ≡ true → from1 slots (s .slot) ≡ true
+
+-- A sound record need not be asked: its plan and its settlement are the same unasked, whatever word is found, and the record that is left is sound.
+abbrev pub UnaskedStands : Type 0
+UnaskedStands =
+    (pooled slots : ℕ) (r : Record) (w : ℕ) → recordSound (eqb pooled 1) slots (r .call) ≡ true
+    → (planUnasked pooled slots (r .call) ≡ plan pooled slots (r .call))
+    × (settleUnasked pooled slots r w ≡ settle pooled slots r w)
+    × (recordSound (eqb pooled 1) slots (settle pooled slots r w .task .call) ≡ true)
+
+-- So is the record that a start writes. So a call's settlements, from its start on, need not ask.
+abbrev pub StartsSound : Type 0
+StartsSound = (pooled slots : ℕ) (r : Call) (s : Start) → startWhy pooled slots r s ≡ 0 → recordSound (eqb pooled 1) slots (firstCall s) ≡ true
 
 -- A turn that was early is one as ever where Anchor is not late.
 abbrev pub EarlyAsEver : Type 0

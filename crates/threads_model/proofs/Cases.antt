@@ -19,7 +19,7 @@ use Rattle.model.specs.Route.{pushRoute, popRoute, route, onward, answer, goes,
 use Rattle.model.specs.Refusals.{openRefusal, stepSound, recordRefusal}
 use Rattle.model.specs.Calls.{opened, openAs, openPooled}
 use Rattle.model.proofs.Bench.{fresh, at, got}
-use Rattle.threads_model.specs.Split.{loads, planned, plan, perform, gone, settledAt, meetsAnchor, settle}
+use Rattle.threads_model.specs.Split.{loads, planned, plan, planUnasked, perform, gone, settledAt, meetsAnchor, settle, settleUnasked}
 use Rattle.threads_model.specs.Starts.{ownRefusal, planStart, settleStart}
 use Rattle.threads_model.specs.Turns.{Turn}
 use Rattle.threads_model.specs.Instructions.{isToPut, loadsOwn, isAsRead, putsOwn, readsNext, atOnce, oneWord, replaces, stepFirst, clears}
@@ -218,12 +218,16 @@ pub record Cases : Type 0 where
   pub first-right : leaves (fresh 0) second .rights ≡ 0 ∷ 0x0000000100000002 ∷ 0 ∷ 0 ∷ []
   pub pooled-alone : hears pool (before14 0 5 ++ steps (replicate 3 0) ++ whole 0 (Pop 1) ++ steps (replicate 6 0)) 0
       ≡ at 12 ∷ at 13 ∷ at 14 ∷ at 1 ∷ at 2 ∷ Moved Pushed ∷ at 1 ∷ at 2 ∷ at 11 ∷ at 15 ∷ at 16 ∷ at 17 ∷ got 1 5 ∷ []
+  -- a record that is asked nothing but its place: idle 31, beyond 17 34; an Anchor found that is unsound is told all the same
+  pub unasked-idle : settleUnasked 0 3 (counting (newCall 0 0 0 0 0) 0) 0 .outcome ≡ Refused 31
+  pub unasked-nowhere : planUnasked 0 3 (newCall 18 1 1 0 0) .word ≡ 34
+  pub unasked-anchor : settleUnasked 0 3 (counting (newCall 1 1 1 0 0) 0) 0x00000000c0000000 .outcome ≡ Refused 34
 
 pub cases : Cases
 unfolding openAs opened openRefusal rowsFit told goOn go turns startFirst planStart settleStart claimsMark looksMark ownRefusal stepFirst isToPut
-    loadsOwn isAsRead putsOwn readsNext atOnce oneWord replaces clears loads planned plan perform gone settledAt meetsAnchor settle recordRefusal
-    stepSound move at1 at2 at3 new4 at4 at5 at6 at7 at9 at10 at11 at12 at13 at14 at15 at16 at17 reading sideOf row linkSide anchorSound linkSound recordSound
-    pushRoute popRoute route onward answer goes counted
+    loadsOwn isAsRead putsOwn readsNext atOnce oneWord replaces clears loads planned plan planUnasked perform gone settledAt meetsAnchor settle
+    settleUnasked recordRefusal stepSound move at1 at2 at3 new4 at4 at5 at6 at7 at9 at10 at11 at12 at13 at14 at15 at16 at17 reading
+    sideOf row linkSide anchorSound linkSound recordSound pushRoute popRoute route onward answer goes counted
 cases = record {
   named-twice = refl;
   label-owed = refl;
@@ -263,4 +267,7 @@ cases = record {
   second-anchor = refl;
   first-right = refl;
   pooled-alone = refl;
+  unasked-idle = refl;
+  unasked-nowhere = refl;
+  unasked-anchor = refl;
 }

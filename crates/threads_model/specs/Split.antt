@@ -2,7 +2,7 @@
 -- act; `settle`, what the record, with the word found, comes to. Neither plan nor settle sees a shared table. Promises are in crate `threads`.
 use mathlib.Core.Bool.{Bool, _&&_, _||_, not, cond}
 use Prim.Native.Nat.{ℕ, _%_, _^_}
-use lib.Dec.{eqb}
+use lib.Dec.{eqb, leb}
 use lib.ListN.{getD, set}
 use Rattle.word.specs.Anchor.{anchorOf}
 use Rattle.word.specs.Link.{linkOf, packLink}
@@ -105,6 +105,22 @@ plan pooled slots r =
     let why = recordRefusal (eqb pooled 1) slots r in
     cond (eqb why 0) (planned pooled slots r) (refuses why)
 
+-- A record that is known to be sound, as a start or a settlement leaves it, is asked nothing but its place: 31 where it is idle, 34 beyond 17.
+abbrev pub placeRefusal : Call → ℕ
+placeRefusal r = cond (eqb (r .place) 0) 31 (cond (leb (r .place) 17) 0 34)
+
+-- The touches of a slot's row, its label or its mark: 3 to 6 and 9 to 11. 34 where there is no such slot, whatever the record holds.
+abbrev pub onRow : ℕ → Bool
+onRow act = (leb 3 act && leb act 6) || leb 9 act
+
+abbrev pub within : ℕ → PlannedTouch → PlannedTouch
+within slots p = cond (onRow (p .act) && not (from1 slots (p .slot))) (refuses 34) p
+
+unfoldable pub planUnasked : ℕ → ℕ → Call → PlannedTouch
+planUnasked pooled slots r =
+    let why = placeRefusal r in
+    cond (eqb why 0) (within slots (planned pooled slots r)) (refuses why)
+
 -- PERFORM. The touch as one act: the tables after it, and the word found.
 pub record Touched : Type 0 where
   pub tables : Tables
@@ -178,6 +194,15 @@ settle pooled slots r w =
     let why = recordRefusal (eqb pooled 1) slots (r .call) in
     cond (eqb why 0)
     (cond (meetsAnchor (r .call) && not (anchorSound slots (anchorOf w))) (refusing r 34)
+    (settledAt (r .call .place) (knowing pooled slots w w) (r .call) w (r .retries)))
+    (refusing r why)
+
+-- The same of a record that is asked nothing but its place; an Anchor that is as read is not tested again.
+unfoldable pub settleUnasked : ℕ → ℕ → Record → ℕ → Settled
+settleUnasked pooled slots r w =
+    let why = placeRefusal (r .call) in
+    cond (eqb why 0)
+    (cond (meetsAnchor (r .call) && not (eqb w (r .call .seen)) && not (anchorSound slots (anchorOf w))) (refusing r 34)
     (settledAt (r .call .place) (knowing pooled slots w w) (r .call) w (r .retries)))
     (refusing r why)
 

@@ -5,11 +5,10 @@ use mathlib.Core.List.{List}
 use Prim.Native.Nat.{ℕ}
 use native.Mathlib.Omega.{arith}
 use lib.Dec.{eqb, leb}
-use borrow.Author.Tests.{eq-eqb, ne-eqb, le-leb}
-use Rattle.word.specs.Anchor.{anchorOf}
+use borrow.Author.Tests.{eq-eqb, ne-eqb}
 use Rattle.model.specs.declared.{Call.Call, Reply.Reply}
-use Rattle.model.specs.Tables.{newCall, started, asking}
-use Rattle.model.specs.Sound.{from1, anchorSound, linkSound, recordSound}
+use Rattle.model.specs.Tables.{started, asking}
+use Rattle.model.specs.Sound.{from1, recordSound}
 use Rattle.model.proofs.tests.Truth.{split, and-true, not-both}
 use Rattle.sound.proofs.Parts.{idle-sound}
 use Rattle.rows.specs.Rows.{callOf, recordOf, upperOf}
@@ -20,8 +19,9 @@ use Rattle.threads_model.specs.Starts.{Begins, ownRefusal, startWhy, wrongPush,
 use Rattle.threads_model.specs.Starts.{lateWord, loadsMark, takesSlot, settleStart}
 use Rattle.threads.proofs.split.ByRecord.{refuses-plan}
 use Rattle.threads.proofs.split.Planned.{plan1, plan12}
+use Rattle.threads.proofs.split.FirstCalls as first
 use Rattle.threads.proofs.split.SoundFields as F
-use Rattle.touch.specs.Started.{Started, startedBy}
+use Rattle.touch.specs.Started.{Started, startedBy, loadedBy}
 use Rattle.touch.proofs.Tested.{plans}
 
 -- Why a start is refused by its own numbers and record, by its tests one after the other; and what it does first.
@@ -69,38 +69,20 @@ module _ (pooled slots : ℕ) where
   abbrev sounds : Call → Bool
   sounds r = recordSound (eqb pooled 1) slots r
 
-  zero-low : leb 0 slots ≡ true
-  zero-low = le-leb 0 slots (omega arith)
-
-  no-link : linkSound slots 0 ≡ true
-  unfolding linkSound
-  no-link = zero-low
-
-  no-anchor : anchorSound slots (anchorOf 0) ≡ true
-  unfolding anchorSound
-  no-anchor = rw zero-low
-
-  base : (n kind side own label : ℕ) → leb kind 1 ≡ true → leb side 1 ≡ true → F.Base pooled slots (newCall n kind side own label)
-  base n kind side own label k a = record { kind = k; side = a; fin = refl; near = zero-low; link = no-link; seen = no-anchor }
-
   pub push-plan : (side slot label : ℕ) → leb side 1 ≡ true → from1 slots slot ≡ true → loadsAnchor ≡ plan pooled slots (started 0 side slot label)
   push-plan side slot label a f =
       let r = started 0 side slot label in
-      plans pooled slots r (F.put pooled slots 1 r (F.low pooled slots 1 refl refl) refl refl refl f refl refl (base 1 0 side slot label refl a)) 1 refl refl _
-      (plan1 pooled slots r)
+      plans pooled slots r (first.push-sound pooled slots side slot label a f) 1 refl refl _ (plan1 pooled slots r)
 
   pub pop-plan : (side : ℕ) → leb side 1 ≡ true → loadsAnchor ≡ plan pooled slots (started 1 side 0 0)
   pop-plan side a =
       let r = started 1 side 0 0 in
-      plans pooled slots r (F.put pooled slots 1 r (F.low pooled slots 1 refl refl) refl refl refl refl refl refl (base 1 1 side 0 0 refl a)) 1 refl refl _
-      (plan1 pooled slots r)
+      plans pooled slots r (first.pop-sound pooled slots side a) 1 refl refl _ (plan1 pooled slots r)
 
   pub put-plan : (side label : ℕ) → leb side 1 ≡ true → eqb pooled 1 ≡ true → loadsHead ≡ plan pooled slots (asking side label)
   put-plan side label a p =
       let r = asking side label in
-      plans pooled slots r (F.put pooled slots 12 r (F.high pooled slots 12 refl p) refl refl refl refl refl refl
-      (base 12 0 side 0 label refl a)) 12 refl refl _
-      (plan12 pooled slots r)
+      plans pooled slots r (first.draw-sound pooled slots side label a p) 12 refl refl _ (plan12 pooled slots r)
 
   refused-34 : (r : Call) → (sounds r ≡ true → ⊥) → refuses 34 ≡ plan pooled slots r
   refused-34 r h =
@@ -161,3 +143,21 @@ module _ (pooled slots : ℕ) (was : List ℕ) (s : Start) where
       let z = and-true (eqb act 1) (eqb (s .operation) 0) both in
       let n = e ∙ ap (λ (b : Bool). cond b (loadsMark (s .slot)) (takesSlot (s .slot) (s .label))) l in
       rw (z .0, z .1) (ap (leaves was (record { code = 0; label = 0; value = 0 })) n)
+
+  -- A start whose Anchor is loaded: refused by its own numbers and record, or settled.
+  abbrev why : ℕ
+  why = startWhy pooled slots (callOf was) s
+
+  abbrev loads-by : ℕ → Started
+  loads-by w = loadedBy pooled slots (upperOf was) (recordOf was) s w
+
+  pub loaded-none : (n w : ℕ) (y : Reply) (p : PlannedTouch) → n ≡ why → (n ≡ 0 → ⊥) → y ≡ record { code = n; label = 0; value = 0 } → p ≡ refuses n
+      → leaves was y p ≡ loads-by w
+  unfolding recordOf
+  loaded-none n w y p e some ey ep =
+      (λ i. leaves was (ey i) (ep i))
+      ∙ rw (ne-eqb why 0 (λ z. some (e ∙ z))) (ap (λ (k : ℕ). leaves was (record { code = k; label = 0; value = 0 }) (refuses k)) e)
+
+  pub loaded-on : (n w : ℕ) → n ≡ why → n ≡ 0 → by (settleStart (recordOf was) s 1 w) ≡ loads-by w
+  unfolding recordOf
+  loaded-on n w e none = rw (eq-eqb why 0 (sym e ∙ none))

@@ -1,12 +1,14 @@
 -- A start in words, and what its settlement leaves and answers.
 use mathlib.Core.{Bool.cond, List.List}
 use Prim.Native.Nat.{ℕ, _%_, _^_}
+use lib.Dec.{eqb}
 use lib.ListN.{getD}
 use Rattle.model.specs.declared.{Record.Record, Reply.Reply}
+use Rattle.model.specs.declared.Outcome.the-variants.{Refused}
 use Rattle.model.specs.{Calls.replyOf, Ends.isMoved}
 use Rattle.threads_model.specs.declared.{PlannedTouch.PlannedTouch, Start.Start}
-use Rattle.threads_model.specs.Split.{plan}
-use Rattle.threads_model.specs.Starts.{Begins, touches, answers}
+use Rattle.threads_model.specs.Split.{refuses, plan}
+use Rattle.threads_model.specs.Starts.{startWhy, Begins, touches, answers, settleStart}
 
 -- Four words: operation, side, slot, label; a label has 32 bits.
 unfoldable pub startOf : List ℕ → Start
@@ -24,3 +26,10 @@ abbrev pub startedBy : ℕ → ℕ → ℕ → Record → Begins → Started
 startedBy pooled slots upper r (touches p) = record { task = r; upper = upper; reply = record { code = 0; label = 0; value = 0 }; touch = p }
 startedBy pooled slots upper r (answers task o) =
     record { task = task; upper = cond (isMoved o) 0 upper; reply = replyOf o; touch = plan pooled slots (task .call) }
+
+-- A start whose Anchor is loaded: its own refusals come first, and then it touches nothing; else what it comes to.
+abbrev pub loadedBy : ℕ → ℕ → ℕ → Record → Start → ℕ → Started
+loadedBy pooled slots upper r s w =
+    let why = startWhy pooled slots (r .call) s in
+    cond (eqb why 0) (startedBy pooled slots upper r (settleStart r s 1 w))
+    (record { task = r; upper = upper; reply = replyOf (Refused why); touch = refuses why })

@@ -13,7 +13,7 @@ ghost use lib.Dec.{eqb};
 ghost use Rattle.rows.specs.Rows.{callOf, recordOf, upperOf};
 ghost use Rattle.threads_model.specs.Split.{plan};
 ghost use Rattle.threads_model.specs.Starts.{wrongPush, outside, startWhy, planStart, firstCall, judged, settleStart, takesSlot, loadsMark};
-ghost use Rattle.touch.specs.Started.{startOf, Started, startedBy};
+ghost use Rattle.touch.specs.Started.{startOf, Started, startedBy, loadedBy};
 
 /// The words of a start.
 pub const START_WORDS: usize = 4;
@@ -236,4 +236,61 @@ pub fn settle_start(
         };
     }
     decides(slots, pooled, task, s, why_not(act, found, late))
+}
+
+/// A start whose Anchor is loaded: refused by its own numbers and record, or what it comes to.
+pub fn start_loaded(
+    slots: u64,
+    pooled: u64,
+    task: &mut [u64; rows::RECORD_WORDS],
+    s: Start,
+    found: u64,
+) -> Onward
+    ensures { λ o.
+        ⌜ _≡_ {A = Started}
+        (record { task = recordOf (now (task .exit)); upper = upperOf (now (task .exit)); reply = o .reply; touch = o .touch })
+        (loadedBy pooled slots (upperOf (now (task .entry))) (recordOf (now (task .entry))) s found) ⌝ }
+{
+    let why = own_refusal(pooled, slots, task, s);
+    if why != 0 {
+        return crate::refused(why);
+    }
+    settle_start(slots, pooled, task, s, 1, found)
+}
+
+/// What a start does first: ZC_NO_TOUCH with its refusal, or it loads Anchor. For C and Rust.
+#[no_mangle]
+pub extern "C" fn zc_plan_start(
+    slots: u64,
+    pooled: u64,
+    task: &[u64; rows::RECORD_WORDS],
+    words: &[u64; START_WORDS],
+) -> PlannedTouch
+    ensures { λ p. ⌜ p ≡ planStart pooled slots (callOf (now (task .entry))) (startOf (now (words .entry))) ⌝ }
+{
+    let asked = *words;
+    plan_start(pooled, slots, task, start_of(asked))
+}
+
+/// What a start comes to once its touch of kind `act` has found a word: one more touch (the reply's code
+/// is then 0), or its outcome and the plan of the record as it then is. For C and
+/// Rust.
+#[no_mangle]
+pub extern "C" fn zc_settle_start(
+    slots: u64,
+    pooled: u64,
+    task: &mut [u64; rows::RECORD_WORDS],
+    words: &[u64; START_WORDS],
+    act: u32,
+    found: u64,
+) -> Onward
+    ensures { λ o.
+        ⌜ _≡_ {A = Started}
+        (record { task = recordOf (now (task .exit)); upper = upperOf (now (task .exit)); reply = o .reply; touch = o .touch })
+        (startedBy pooled slots (upperOf (now (task .entry))) (recordOf (now (task .entry)))
+        (settleStart (recordOf (now (task .entry))) (startOf (now (words .entry))) act found)) ⌝ }
+{
+    let asked = *words;
+    let s = start_of(asked);
+    settle_start(slots, pooled, task, s, act, found)
 }

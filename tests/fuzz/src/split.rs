@@ -99,6 +99,18 @@ fn planned(ours: &Ours, own: &raw::Record) -> Touch {
     unsafe { raw::zc_plan(ours.control.slots, ours.control.pooled, own) }
 }
 
+/// What a step comes to. A record that has a plan need not be tested, and comes to the same.
+fn settled(ours: &Ours, own: &mut raw::Record, found: u64, has_plan: bool) -> Onward {
+    let (slots, pooled, mut untested) = (ours.control.slots, ours.control.pooled, *own);
+    // SAFETY: the records are lent for the calls.
+    let onward = unsafe { raw::zc_settle_plan(slots, pooled, own, found) };
+    if has_plan {
+        let same = unsafe { raw::zc_settle_unasked(slots, pooled, &mut untested, found) };
+        assert_eq!((same, untested), (onward, *own), "not tested");
+    }
+    onward
+}
+
 pub fn step(bytes: &mut Bytes, ours: &mut Ours, theirs: &mut Storage) {
     if !admitted(theirs) {
         return;
@@ -110,9 +122,7 @@ pub fn step(bytes: &mut Bytes, ours: &mut Ours, theirs: &mut Storage) {
     let mut one = record(&two);
     let touch = planned(ours, &one);
     let found = made(ours, &touch);
-    // SAFETY: the record is lent for the call.
-    let onward =
-        unsafe { raw::zc_settle_plan(ours.control.slots, ours.control.pooled, &mut one, found) };
+    let onward = settled(ours, &mut one, found, touch.act != raw::NO_TOUCH);
     let expected = by_reference(theirs.lend().shared.step_lent(&mut two)).map(moved);
     assert_eq!(told(&onward), expected);
     assert_eq!(one, record(&two), "the record");
@@ -148,16 +158,22 @@ pub fn start(bytes: &mut Bytes, ours: &mut Ours, theirs: &mut Storage) {
     let start = Start { operation, side, slot, label: bytes.word() };
     let (slots, pooled) = (ours.control.slots, ours.control.pooled);
     let expected = started(theirs, &mut two, &start);
+    let (anchor, mut loaded) = (ours.control.anchor, one);
     // SAFETY: record and start are lent for the call, here and below.
+    let at_once = unsafe { raw::zc_start_loaded(slots, pooled, &mut loaded, &start, anchor) };
     let mut touch = unsafe { raw::zc_plan_start(slots, pooled, &one, &start) };
     if touch.act == raw::NO_TOUCH {
         assert_eq!(Err(touch.word as u32), expected, "refused without a touch");
+        assert_eq!((told(&at_once), at_once.touch, loaded), (expected, touch, one), "at once");
         return;
     }
     loop {
         let found = made(ours, &touch);
         let onward =
             unsafe { raw::zc_settle_start(slots, pooled, &mut one, &start, touch.act, found) };
+        if touch.act == raw::LOAD_ANCHOR {
+            assert_eq!((at_once, loaded), (onward, one), "at once");
+        }
         if onward.reply.code != raw::STARTING {
             assert_eq!(told(&onward), expected);
             assert_eq!(one, record(&two), "the record");

@@ -10,7 +10,14 @@ use suite::{made, same, Checks, Told, Verdict};
 const PARTS: [&str; 7] = ["calls", "sheet", "shelf", "join", "schedules", "serve", "audit"];
 
 /// Calls whose answers `tests/threads/touches.c` counts.
-const TOUCHES: [&str; 4] = ["zc_plan", "zc_plan_start", "zc_settle_plan", "zc_settle_start"];
+const TOUCHES: [&str; 6] = [
+    "zc_plan",
+    "zc_plan_start",
+    "zc_settle_plan",
+    "zc_settle_start",
+    "zc_settle_unasked",
+    "zc_start_loaded",
+];
 
 /// The refusals of documents 01 and 02 that are a call's; 16 is that of a run file.
 const REFUSALS: [u32; 20] =

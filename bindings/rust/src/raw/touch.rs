@@ -98,6 +98,10 @@ unsafe extern "C" {
     /// Refuses: 34 for the record, 31, 34 for the word found.
     pub fn zc_settle_plan(slots: u64, pooled: u64, own: *mut Record, found: u64) -> Onward;
 
+    /// The same for a record that nobody has written since a start or a settlement left it, which
+    /// is not tested again. Refuses: 31, 34 for the place, 34 for the word found.
+    pub fn zc_settle_unasked(slots: u64, pooled: u64, own: *mut Record, found: u64) -> Onward;
+
     /// The first touch of a start; none where it is refused: 14, 41, 15, 34 for the record, 30.
     pub fn zc_plan_start(slots: u64, pooled: u64, own: *const Record, start: *const Start)
         -> Touch;
@@ -111,5 +115,14 @@ unsafe extern "C" {
         start: *const Start,
         act: u32,
         found: u64,
+    ) -> Onward;
+
+    /// Both in one call, for an Anchor that is loaded already. Refuses as they do.
+    pub fn zc_start_loaded(
+        slots: u64,
+        pooled: u64,
+        own: *mut Record,
+        start: *const Start,
+        anchor: u64,
     ) -> Onward;
 }

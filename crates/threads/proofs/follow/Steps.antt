@@ -15,13 +15,13 @@ use Rattle.model.specs.Calls.{Acted, act, back}
 use Rattle.model.proofs.tests.Truth.{by-test, split, and-true, not-both}
 use Rattle.model.proofs.bridge.{Marks.marked-other, Facts.from1-true}
 use Rattle.model.proofs.invariant.Owners.{Owner, held}
-use Rattle.threads_model.specs.Split.{plan, perform, settle, splitStep, Touched, Settled}
+use Rattle.threads_model.specs.Split.{plan, perform, settle, splitStep, Touched, Settled, onRow}
 use Rattle.threads_model.specs.declared.PlannedTouch.{PlannedTouch}
 use Rattle.threads.proofs.split.Within.{plans-within}
 use Rattle.threads_model.specs.Instructions.{Hand, loaded, knows, labels, ends, Ticked, quiet, decided}
 use Rattle.threads_model.specs.Instructions.{putInto, isToPut, isAsRead, loadsOwn, putsOwn, readsNext, atOnce, oneWord, replaces, stepFirst, clears}
 use Rattle.threads_model.specs.Crew.{Crew}
-use Rattle.threads.specs.Promises.{onRow, OwesLabel, OwesMark}
+use Rattle.threads.specs.Promises.{OwesLabel, OwesMark}
 use Rattle.threads.proofs.follow.Overlay.{overlay, Over, over, perform5, perform6, perform9, perform11, linked-same}
 use Rattle.threads.proofs.follow.Plans.{says, settle14}
 use Rattle.threads.proofs.follow.Good as own

@@ -1,6 +1,6 @@
 -- A plan for a row names a slot, whatever the record holds; so does a start that is not refused.
 use mathlib.Core.Path.{_≡_, refl, ap, subst, sym, _∙_}
-use mathlib.Core.Bool.{Bool, true, false, not, cond}
+use mathlib.Core.Bool.{Bool, true, false, _&&_, not, cond}
 use Prim.Native.Nat.{ℕ, suc, _+_, _/_, _^_, _≤_}
 use native.Mathlib.Omega.{arith}
 use lib.Dec.{eqb, leb}
@@ -15,13 +15,13 @@ use Rattle.model.specs.Sound.{from1, linkSound, recordTests, recordSound}
 use Rattle.model.proofs.tests.Rules.{cleared, tests}
 use Rattle.model.proofs.tests.Truth.{split, either, by-test, and-true, and-of, not-both}
 use Rattle.threads_model.specs.declared.PlannedTouch.{PlannedTouch}
-use Rattle.threads_model.specs.Split.{refuses, loadsAnchor, swapsAnchor, loadsLink, plan, planned}
+use Rattle.threads_model.specs.Split.{refuses, loadsAnchor, swapsAnchor, loadsLink, plan, planned, onRow, placeRefusal, planUnasked}
 use Rattle.threads_model.specs.Starts.{ownRules, ownRefusal, wrongPush, outside, startWhy, planStart}
-use Rattle.threads.specs.Promises.{onRow, PlansWithin, StartsWithin}
+use Rattle.threads.specs.Promises.{PlansWithin, UnaskedWithin, StartsWithin}
 use Rattle.threads.proofs.split.Planned as asks
 use Rattle.threads.proofs.split.ByRecord as by
 
-abbrev Within : ℕ → PlannedTouch → Type 0
+abbrev pub Within : ℕ → PlannedTouch → Type 0
 Within slots p = onRow (p .act) ≡ true → from1 slots (p .slot) ≡ true
 
 never : {P : Type 0} {b : Bool} → b ≡ true → b ≡ false → P
@@ -63,10 +63,10 @@ module _ (pooled slots : ℕ) (r : Call) where
   abbrev made10 : ℕ
   made10 = packAnchor (record { tag = r .seen / 2 ^ 32 + 1; status = 0; left = anchorOf (r .seen) .left; right = anchorOf (r .seen) .right })
 
-  ok2 : ok 2
+  pub ok2 : ok 2
   ok2 = let new = made (anchorOf (r .seen) .status) end2 end2 in changes new (planned pooled slots (atPlace r 2)) (asks.plan2 pooled slots r end2 new refl refl)
 
-  ok3 : ok 3
+  pub ok3 : ok 3
   ok3 =
       split (eqb (r .kind) 0)
       (λ k. split (from1 slots (r .own))
@@ -75,10 +75,22 @@ module _ (pooled slots : ℕ) (r : Call) where
       (λ k. tested (asks.end pooled slots r (asks.own pooled slots r)) (cond (asks.own pooled slots r) 0 1) (planned pooled slots (atPlace r 3))
       (asks.read3 pooled slots r k))
 
-  ok4 : ok 4
+  pub ok4 : ok 4
   ok4 = changes made4 (planned pooled slots (atPlace r 4)) (asks.plan4 pooled slots r status4 end4 made4 refl refl refl)
 
-  ok9 : ok 9
+  pub ok5 : ok 5
+  ok5 =
+      tested (asks.end pooled slots r (asks.named pooled slots r)) (cond (asks.named pooled slots r) 0 1) (planned pooled slots (atPlace r 5))
+      (asks.plan5 pooled slots r)
+
+  pub ok7 : ok 7
+  ok7 = tested (r .neighbour) (cond (asks.named pooled slots r) 1 0) (planned pooled slots (atPlace r 7)) (asks.plan7 pooled slots r)
+
+  -- 1, 6, 8, 12 and 15 load Anchor or the head.
+  pub loaded : {p q : PlannedTouch} → p ≡ q → onRow (p .act) ≡ false → Within slots q
+  loaded e off = subst (Within slots) e (λ h. never h off)
+
+  pub ok9 : ok 9
   ok9 =
       split (from1 slots (r .neighbour))
       (λ f. split (asks.room pooled slots r)
@@ -86,10 +98,10 @@ module _ (pooled slots : ℕ) (r : Call) where
       (λ l. subst (Within slots) (asks.load9 pooled slots r f l) (λ h. f)))
       (λ f. subst (Within slots) (asks.outside9 pooled slots r f) (λ h. never h refl))
 
-  ok10 : ok 10
+  pub ok10 : ok 10
   ok10 = changes made10 (planned pooled slots (atPlace r 10)) (asks.plan10 pooled slots r made10 refl)
 
-  ok11 : ok 11
+  pub ok11 : ok 11
   ok11 =
       split (from1 slots (asks.end pooled slots r (asks.own pooled slots r)))
       (λ f. subst (Within slots) (asks.take11 pooled slots r f) (λ h. f))
@@ -129,7 +141,7 @@ module _ (pooled slots : ℕ) (r : Call) where
       let own = all .1 .1 .1 .1 .1 .1 .1 .0 in
       subst (Within slots) (asks.plan16 pooled slots r) (λ h. split (eqb (r .kind) 0) (λ k. rw k at own) (λ k. rw k at own))
 
-  ok17 : ok 17
+  pub ok17 : ok 17
   ok17 =
       split (asks.room pooled slots r)
       (λ l. subst (Within slots) (asks.swap17 pooled slots r l) (λ h. never h refl))
@@ -145,17 +157,16 @@ module _ (pooled slots : ℕ) (r : Call) where
   within low high =
       let P : ℕ → Type 0 = λ n. sound n → ok n in
       let n = r .place in
-      turn P 1 n low (λ _. subst (Within slots) (asks.plan1 pooled slots r) (λ h. never h refl))
+      turn P 1 n low (λ _. loaded (asks.plan1 pooled slots r) refl)
       (λ h. turn P 2 n h (λ _. ok2) (λ h. turn P 3 n h (λ _. ok3) (λ h. turn P 4 n h (λ _. ok4)
-      (λ h. turn P 5 n h (λ _. tested (asks.end pooled slots r (asks.named pooled slots r)) (cond (asks.named pooled slots r) 0 1)
-      (planned pooled slots (atPlace r 5)) (asks.plan5 pooled slots r))
-      (λ h. turn P 6 n h (λ _. subst (Within slots) (asks.plan6 pooled slots r) (λ h. never h refl))
-      (λ h. turn P 7 n h (λ _. tested (r .neighbour) (cond (asks.named pooled slots r) 1 0) (planned pooled slots (atPlace r 7)) (asks.plan7 pooled slots r))
-      (λ h. turn P 8 n h (λ _. subst (Within slots) (asks.plan8 pooled slots r) (λ h. never h refl))
+      (λ h. turn P 5 n h (λ _. ok5)
+      (λ h. turn P 6 n h (λ _. loaded (asks.plan6 pooled slots r) refl)
+      (λ h. turn P 7 n h (λ _. ok7)
+      (λ h. turn P 8 n h (λ _. loaded (asks.plan8 pooled slots r) refl)
       (λ h. turn P 9 n h (λ _. ok9) (λ h. turn P 10 n h (λ _. ok10) (λ h. turn P 11 n h (λ _. ok11)
-      (λ h. turn P 12 n h (λ _. subst (Within slots) (asks.plan12 pooled slots r) (λ h. never h refl))
+      (λ h. turn P 12 n h (λ _. loaded (asks.plan12 pooled slots r) refl)
       (λ h. turn P 13 n h ok13 (λ h. turn P 14 n h ok14
-      (λ h. turn P 15 n h (λ _. subst (Within slots) (asks.plan15 pooled slots r) (λ h. never h refl))
+      (λ h. turn P 15 n h (λ _. loaded (asks.plan15 pooled slots r) refl)
       (λ h. turn P 16 n h ok16 (λ h. subst P (last h) (λ _. ok17)))))))))))))))))
     where
       last : 17 ≤ r .place → 17 ≡ r .place
@@ -171,6 +182,21 @@ plans-within pooled slots r =
   where
     sound-of : recordRefusal (eqb pooled 1) slots r ≡ 0 → recordSound (eqb pooled 1) slots r ≡ true
     sound-of none = split (recordSound (eqb pooled 1) slots r) (λ s. s) (λ s. absurd (let z : _≡_ {A = ℕ} 34 0 = simp s at none in omega arith))
+
+pub unasked-within : UnaskedWithin
+unfolding planUnasked
+unasked-within pooled slots r =
+    let p = planned pooled slots r in
+    split (eqb (placeRefusal r) 0)
+    (λ z. rw z (by-test (Within slots) (onRow (p .act) && not (from1 slots (p .slot)))
+    (λ _ h. never h refl)
+    (λ e h. not-either (onRow (p .act)) (from1 slots (p .slot)) e h)))
+    (λ z. rw z (λ h. never h refl))
+  where
+    not-either : (a b : Bool) → a && not b ≡ false → a ≡ true → b ≡ true
+    not-either true true e h = refl
+    not-either true false e h = never refl e
+    not-either false b e h = never h refl
 
 -- A start that is not refused for its slot names one.
 pub starts-within : StartsWithin

@@ -1,7 +1,7 @@
 use mathlib.Core.Path.{_≡_, refl, sym, ap, _∙_}
 use Rattle.model.specs.declared.Call.{Call}
 use Rattle.rows.specs.Rows.{callOf}
-use Rattle.threads.proofs.split.ByRecord.{idle-plan}
+use Rattle.touch.proofs.Tested.{plans-none}
 use borrow.Author.Needs.{needs}
 use Rattle.touch.proofs.ahead.Statement.{statement}
 use Rattle.touch.proofs.ahead.Tie as tie
@@ -20,7 +20,7 @@ returns-3 : tie.Need-returns-3
 returns-3 c =
     let co = c .before .before .before .before .before .before .before in
     let a = co .before .before .args in
-    (refl, λ pooled sound. c .refuses .ensures ∙ idle-plan pooled (a .slots) (callOf (a .task .now)) (placed co ∙ c .before .if3 .taken))
+    (refl, λ pooled. plans-none pooled (a .slots) (callOf (a .task .now)) 31 (rw (placed co ∙ c .before .if3 .taken)) refl _ (c .refuses .ensures))
 
 returns-4 : tie.Need-returns-4
 returns-4 c = (refl, c .arms-row3 .ensures (placed (c .before .before .before .before .before .before .before)))

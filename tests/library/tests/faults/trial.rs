@@ -61,6 +61,15 @@ fn atomic(compiler: &str, sources: &str, program: &str) -> String {
     )
 }
 
+/// `tests/threads/touches.c` beside the right calls by hand, with the faulty ones in the library's place.
+fn touch_calls(sources: &str) -> String {
+    format!(
+        r#"{OBJECT}
+           cc -std=gnu11 -O1 -w -Iinclude -Ibench -Itests/library {sources} "$WORK/fault.o" $others -o "$WORK/touches"
+           set +e; limited "$WORK/touches" 200000"#
+    )
+}
+
 /// Accounts or rounds see it, by one of the seeds.
 fn threads() -> String {
     let accounts = atomic("cxx", "tests/threads/accounts.cc", "accounts");
@@ -84,6 +93,7 @@ fn recipe(test: &str) -> Option<String> {
             atomic("cc -std=gnu11", touches, "touches")
                 + r#"set +e; limited "$WORK/touches" 200000"#,
         ),
+        "touch_calls" => Some(touch_calls(touches)),
         "tsan" => {
             let built = atomic("cxx -fsanitize=thread", "tests/threads/accounts.cc", "accounts");
             Some(built + r#"set +e; limited "$WORK/accounts" 2"#)

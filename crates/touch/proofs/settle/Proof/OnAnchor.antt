@@ -1,19 +1,15 @@
 -- The arms that meet Anchor, 1, 2, 4, 6, 8 and 10: it is checked first.
 use mathlib.Core.Path.{_≡_, refl, ap, _∙_}
-use lib.Dec.{eqb}
-use Rattle.model.specs.Refusals.{recordRefusal}
 use Rattle.rows.specs.Rows.{callOf}
-use Rattle.threads_model.specs.Split.{meetsAnchor}
+use Rattle.threads_model.specs.Split.{meetsAnchor, placeRefusal}
 use Rattle.touch.proofs.Filled as filled
 use Rattle.touch.proofs.Dispatch as by
 use Rattle.touch.proofs.Border.{done}
 use Rattle.touch.proofs.settle.Tie as tie
 
 -- The call is the one that the row holds.
-pub called : (co : tie.After-call-of)
-    → (let a = co .before .before .args in recordRefusal (eqb (a .pooled) 1) (a .slots) (callOf (a .task .now)) ≡ 0)
-    → (let a = co .before .before .args in recordRefusal (eqb (a .pooled) 1) (a .slots) (co .call-of .result) ≡ 0)
-called co none = let a = co .before .before .args in ap (recordRefusal (eqb (a .pooled) 1) (a .slots)) (co .call-of .ensures) ∙ none
+pub called : (co : tie.After-call-of) → (let a = co .before .before .args in placeRefusal (callOf (a .task .now)) ≡ 0) → placeRefusal (co .call-of .result) ≡ 0
+called co none = ap placeRefusal (co .call-of .ensures) ∙ none
 
 pub returns : tie.Need-returns
 unfolding meetsAnchor
@@ -22,7 +18,7 @@ returns c none =
     let co = c .before .before .before .before .before .before .before .before .call-of in
     let a = c .before .before .before .before .before .before .before .before .before .before .args in
     done (a .pooled) (a .slots) (a .w) (a .task .now) _ (co .result) (c .before .before .before .checked .result) (c .before .before .put .result)
-    (co .ensures) none
+    (co .ensures)
     (λ k. by.settles-on (a .pooled) (a .slots) (co .result) (a .w) k (called
     (c .before .before .before .before .before .before .before .before) none) 1
     (c .before .before .before .before .before .before .match .keys1) _ _ _ (kn .ensures) refl refl (c .before .before .before .checked .ensures)
@@ -36,7 +32,7 @@ returns-2 c none =
     let co = c .before .before .before .before .before .before .before .before .call-of in
     let a = c .before .before .before .before .before .before .before .before .before .before .args in
     done (a .pooled) (a .slots) (a .w) (a .task .now) _ (co .result) (c .before .before .before .checked2 .result) (c .before .before .put2 .result)
-    (co .ensures) none
+    (co .ensures)
     (λ k. by.settles-on (a .pooled) (a .slots) (co .result) (a .w) k (called
     (c .before .before .before .before .before .before .before .before) none) 2
     (c .before .before .before .before .before .before .match .keys2) _ _ _ (kn .ensures) refl refl (c .before .before .before .checked2 .ensures)
@@ -50,7 +46,7 @@ returns-4 c none =
     let co = c .before .before .before .before .before .before .before .before .call-of in
     let a = c .before .before .before .before .before .before .before .before .before .before .args in
     done (a .pooled) (a .slots) (a .w) (a .task .now) _ (co .result) (c .before .before .before .checked3 .result) (c .before .before .put4 .result)
-    (co .ensures) none
+    (co .ensures)
     (λ k. by.settles-on (a .pooled) (a .slots) (co .result) (a .w) k (called
     (c .before .before .before .before .before .before .before .before) none) 4
     (c .before .before .before .before .before .before .match .keys4) _ _ _ (kn .ensures) refl refl (c .before .before .before .checked3 .ensures)
@@ -64,7 +60,7 @@ returns-6 c none =
     let co = c .before .before .before .before .before .before .before .before .call-of in
     let a = c .before .before .before .before .before .before .before .before .before .before .args in
     done (a .pooled) (a .slots) (a .w) (a .task .now) _ (co .result) (c .before .before .before .checked4 .result) (c .before .before .put6 .result)
-    (co .ensures) none
+    (co .ensures)
     (λ k. by.settles-on (a .pooled) (a .slots) (co .result) (a .w) k (called
     (c .before .before .before .before .before .before .before .before) none) 6
     (c .before .before .before .before .before .before .match .keys6) _ _ _ (kn .ensures) refl refl (c .before .before .before .checked4 .ensures)
@@ -78,7 +74,7 @@ returns-8 c none =
     let co = c .before .before .before .before .before .before .before .before .call-of in
     let a = c .before .before .before .before .before .before .before .before .before .before .args in
     done (a .pooled) (a .slots) (a .w) (a .task .now) _ (co .result) (c .before .before .before .checked5 .result) (c .before .before .put8 .result)
-    (co .ensures) none
+    (co .ensures)
     (λ k. by.settles-on (a .pooled) (a .slots) (co .result) (a .w) k (called
     (c .before .before .before .before .before .before .before .before) none) 8
     (c .before .before .before .before .before .before .match .keys8) _ _ _ (kn .ensures) refl refl (c .before .before .before .checked5 .ensures)
@@ -92,7 +88,7 @@ returns-10 c none =
     let co = c .before .before .before .before .before .before .before .before .call-of in
     let a = c .before .before .before .before .before .before .before .before .before .before .args in
     done (a .pooled) (a .slots) (a .w) (a .task .now) _ (co .result) (c .before .before .before .checked6 .result)
-    (c .before .before .put10 .result) (co .ensures) none
+    (c .before .before .put10 .result) (co .ensures)
     (λ k. by.settles-on (a .pooled) (a .slots) (co .result) (a .w) k (called
     (c .before .before .before .before .before .before .before .before) none) 10
     (c .before .before .before .before .before .before .match .keys10) _ _ _ (kn .ensures) refl refl (c .before .before .before .checked6 .ensures)

@@ -4,8 +4,8 @@ use Rattle.threads_model.specs.declared.Start.{Start}
 use Rattle.threads_model.specs.Starts.{settleStart}
 use Rattle.touch.specs.Started.{startedBy}
 use borrow.Author.Needs.{needs}
-use Rattle.touch.proofs.zc_settle_start.Statement.{statement}
-use Rattle.touch.proofs.zc_settle_start.Tie as tie
+use Rattle.touch.proofs.start.zc_settle_start.Statement.{statement}
+use Rattle.touch.proofs.start.zc_settle_start.Tie as tie
 
 returns : tie.Need-returns
 returns c =

@@ -3,8 +3,8 @@ use Rattle.rows.specs.Rows.{callOf}
 use Rattle.threads_model.specs.declared.Start.{Start}
 use Rattle.threads_model.specs.Starts.{planStart}
 use borrow.Author.Needs.{needs}
-use Rattle.touch.proofs.zc_plan_start.Statement.{statement}
-use Rattle.touch.proofs.zc_plan_start.Tie as tie
+use Rattle.touch.proofs.start.zc_plan_start.Statement.{statement}
+use Rattle.touch.proofs.start.zc_plan_start.Tie as tie
 
 returns : tie.Need-returns
 returns c =
