@@ -1,6 +1,6 @@
 -- What the walks by hand share.
 --     kept                 a reference whose target holds something else
---     holds, fails         a test's outcome as an equation
+--     fails                a failed test as an equation
 --     var, part, lets      rules of `types.Run`, at a local: it is read, a field of it is read, it is assigned
 --     valued, receive      an assigned value, and a call's result, written another way
 --     gives-up             a lent slice that is not passed on, given up as it is
@@ -48,10 +48,6 @@ abbrev pub kept : {X : Type 0} → RefT X → X → RefT X
 kept x y = record { ptr = x .ptr; name = x .name; now = y }
 
 -- ---- tests
-pub holds : (t : Bool) → T t → t ≡ true
-holds true _ = refl
-holds false a = absurd a
-
 pub fails : (t : Bool) → (T t → ⊥) → t ≡ false
 fails true f = absurd (f tt)
 fails false _ = refl

@@ -13,7 +13,7 @@ use Rattle.model.specs.Refusals.{Lent, admissionRules, among, first, fits, name
 use Rattle.model.specs.Refusals.{popRefusal, pushRefusal, pushPooledRefusal, startRules, startRefusal, stepRefusal}
 use Rattle.model.specs.Calls.{Acted, Done, act, actOn, back, decide, popStart, pushStart, pushPooledStart, step}
 use Rattle.model.specs.Walk.{Walk, along, andThen, broken, contents, entries, walkFrom, whence}
-use Rattle.model.specs.{History.{Event, Request, final, run}, Sides.{far, isEmpty, near, opposite}}
+use Rattle.model.specs.{History.{Event, Request, run}, Sides.{far, isEmpty, near, opposite}}
 use Rattle.model.proofs.{tests.{Rules.cleared, Truth.split}, bridge.Facts.from1-true, laws.Sizes.act-tasks}
 use Rattle.shelf_model.specs.Cut.{cut, cutTables}
 use Rattle.shelf_model.proofs.Lists.{enough-take, get-take, set-take}
@@ -154,12 +154,6 @@ run-cut (o ∷ os) q =
       before = q .tables .control .anchor;
       after = d .queue .tables .control .anchor;
     }
-
-pub final-cut : (os : List Request) (q : Queue) → final (cut q) os ≡ cut (final q os)
-unfolding final
-final-cut [] q = refl
-final-cut (o ∷ os) q =
-    ap (λ (d : Done). final (d .queue) os) (act-cut q (o .task) (o .op)) ∙ final-cut os (act q (o .task) (o .op) .queue)
 
 -- The walk.
 along-cut : (slots : ℕ) (links labels : List ℕ) (last n x : ℕ)

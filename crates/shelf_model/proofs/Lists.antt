@@ -23,11 +23,6 @@ module _ {A : Type 0} where
   set-take (suc n) (y ∷ l) zero v = refl
   set-take (suc n) (y ∷ l) (suc x) v = ap (λ (m : List A). y ∷ m) (set-take n l x v)
 
-  pub take-take : (n : ℕ) (l : List A) → take n (take n l) ≡ take n l
-  take-take zero l = refl
-  take-take (suc n) [] = refl
-  take-take (suc n) (y ∷ l) = ap (λ (m : List A). y ∷ m) (take-take n l)
-
   -- Long enough when cut is long enough.
   pub longer-take : (n : ℕ) (l : List A) → ltb n (length (take (suc n) l)) ≡ ltb n (length l)
   longer-take n l = same-test _ _

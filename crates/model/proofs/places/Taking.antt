@@ -8,14 +8,14 @@ use Rattle.model.proofs.lists.{All.{all-both, all-map, all-rest, all-se
 use Rattle.model.proofs.lists.{Deque.{Distinct, front, put, rest, seen, took}, In.{In, in-put, in-took}}
 use Rattle.model.proofs.machine.Book.{BookCall, effect, given, granted, isNoFreeSlot, noted, told}
 use Rattle.model.proofs.machine.{Laws.{stable-pushing, upd-other, upd-same}, Machine.{tip, upd, withAnchor}}
-use Rattle.model.proofs.machine.Machine.{Anchor, Move, Rec, Shared, Touch, apply, at1, at11, goes, isGiving, pop}
+use Rattle.model.proofs.machine.Machine.{Anchor, Move, Rec, Shared, Touch, apply, at11, goes, isGiving, pop}
 use Rattle.model.proofs.machine.Machine.{none, popped, push, pushed, pushing, putAnchor, running, runs, stable}
 use Rattle.model.proofs.invariant.{Owners.{Owner, Intact, free, held, queued, shows}, Rely.Rely}
 use Rattle.model.proofs.invariant.{Shape.{Made, Shape}, Tasks.{Bare, Before, Own, Sole}}
 use Rattle.model.proofs.places.{Effects.{noted-pop, noted-push}, Marking.{marked-at, shows-own}}
 use Rattle.model.proofs.places.Owned.{held-free, held-inj, owner-back, owner-bounds, owner-kept, owner-spare}
 use Rattle.model.proofs.places.Owned.{push-pop, queued-free, queued-held}
-use Rattle.model.proofs.places.Shown.{Finish, Shown, effective, rely-turn, still}
+use Rattle.model.proofs.places.Shown.{Finish, Shown, effective, rely-turn}
 
 module _ {s : Shared} {h : ℕ → Owner} {q : List Entry} (all : Intact s h q) where
   stable-made : s .anchor .status ≡ stable → (e : Bool) → s .anchor .status ≡ pushing e → Made (s .link) (s .anchor) e
@@ -147,6 +147,3 @@ module _ {t : ℕ} {s : Shared} {h : ℕ → Owner} {q : List Entry} {c : BookCa
           go : (y ≡ tip (r .read) (r .side)) ⊎ (y ≢ tip (r .read) (r .side)) → y ≡ tip (r .read) (r .side)
           go (inl z) = z
           go (inr z) = absurd (o y (sym (upd-other h (tip (r .read) (r .side)) (held t) y z) ∙ f))
-
-  pub back : Before (s .label) h t (r .kind) (r .side) (r .own) (r .label) c → r .finishing ≡ false → Shown t s h q c (runs none (goes r at1))
-  back b e = still refl all (e, b)

@@ -17,7 +17,7 @@ use types.Run.{no-more, assigns, first, branches, skips, exec, returns, returns-
 use sound.WpLaws.{FmC}
 use denote.{RattleType.owns, Shadow.pureI, Laws.{Is, shows}, Memory.mem, Plain.uint-lawful, Builtin.{u32, u64, usize}}
 use denote.{Ref.{RefT, MutRef}, Slice.{sliceVal, Room, at-slice, MutSlice, finally}, Struct.Steps.spelt}
-use denote.Index.{place, place-is, elem-out, elem-put, opens-slice, closes-slice}
+use denote.Index.{place-is, elem-out, elem-put, opens-slice, closes-slice}
 use denote.{Steps.{only, opens, closes, owned, facts}, Triple.{Statement.Triple, Entry.onEntry}}
 use denote.Struct.Laws as LL
 use denote.Enum.Laws as EL
@@ -64,13 +64,6 @@ module _ {M : Type 1} (𝓤 : URA M) (H : Heap 𝓤) (A : Atoms 𝓤) (W : Given
 
   abbrev pc : Val
   pc = vptr (xc .ptr .0) (xc .ptr .1)
-
-  -- where the task's record lies
-  abbrev spot : ℕ
-  spot = place (mem T.the-row .size) (xr .ptr .1) task
-
-  abbrev pr : Val
-  pr = vptr (xr .ptr .0) spot
 
   abbrev κs : Five Lft
   κs = (κ1, (κ2, (κ3, (κ4, (κ5, tt)))))
