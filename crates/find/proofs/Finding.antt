@@ -1,12 +1,11 @@
 -- The answer: refused before the walk, by the walk, or found.
-use mathlib.Core.{Path.{_≡_, refl, sym, ap, _∙_}, Bool.{Bool, true, false, not}, List.{List, [], _∷_}}
+use mathlib.Core.{Path.{_≡_, refl, sym, _∙_}, Bool.{Bool, true, false, not}, List.{List, [], _∷_}}
 use Prim.Native.Nat.{ℕ, _≤_}
 use native.Mathlib.Omega.{arith}
 use lib.{Dec.ltb, ListN.length}
 use borrow.Author.Tests.{ltb-false, ne-eqb}
-use Rattle.model.specs.{Tables.Tables, Sound.{controlSound, from1, rowsFit}, Refusals.{rule, first}}
-use Rattle.model.{specs.Walk.{Walk, contents, isBroken, entries, broken}, proofs.tests.Truth.split}
-use Rattle.walk.{specs.{declared.Way.Way, Ways.{wayOf, noneOn, ahead, turnedBack}}, proofs.Along.{nowhere, waits, off}}
+use Rattle.model.specs.{Tables.Tables, Sound.{controlSound, rowsFit}, Walk.{Walk, contents, isBroken, entries, broken}}
+use Rattle.model.specs.Refusals.{rule, first}
 use Rattle.find_model.specs.Find.{find, findRefusal, refused}
 use Rattle.find.specs.Looked.{foundIn, refusalBefore}
 
@@ -24,13 +23,6 @@ one-applies true false true d h = absurd (h refl)
 one-applies true false false d h = refl
 one-applies true true c d h = refl
 one-applies false b c d h = refl
-
--- Where an end is a slot, what waits is what the walk meets, turned to run from left to right.
-pub on-way : (q : Tables) (w : Way) → w ≡ wayOf (q .control) → noneOn w ≡ false
-    → contents q ≡ turnedBack w (ahead w (q .lefts) (q .rights) (q .labels))
-on-way q w e y =
-    split (from1 (w .slots) (w .first)) (λ z. waits q w e z)
-    (λ z. off q w e z y ∙ sym (ap (turnedBack w) (nowhere w (q .lefts) (q .rights) (q .labels) (w .slots) (w .first) z)))
 
 module _ (q : Tables) (wanted : List ℕ) where
   abbrev pub why : ℕ

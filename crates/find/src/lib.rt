@@ -2,12 +2,14 @@
 use find_model::FindReply;
 use model::Control;
 use sound::Lengths;
+use walk::Beginning;
+use walk::Led;
 use walk::Tally;
 use walk::Way;
-ghost use mathlib.Core.{Path._≡_, Bool.{false, _||_}, List.List};
+ghost use mathlib.Core.{Path._≡_, Bool.{true, false, _||_}, List.List};
 ghost use Prim.Native.Nat.{ℕ, _+_, _%_, _<_, _≤_};
 ghost use lib.{Dec.{leb, ltb}, ListN.{length, getD, set, replicate}};
-ghost use Rattle.model.specs.{Tables.{tablesOf, marked}, Sound.{controlSound, rowsFit}};
+ghost use Rattle.model.specs.{Tables.{tablesOf, marked}, Sound.{controlSound, from1, rowsFit}};
 ghost use Rattle.rows.specs.Rows.{controlOf};
 ghost use Rattle.walk.specs.{Over.over, Ways.{ahead, turnedBack}};
 ghost use Rattle.find_model.specs.{Find.find, Noting.{pick, note, turned}};
@@ -115,12 +117,17 @@ fn look(
         n += 1;
         let label = table::label_at(labels, x);
         meet(w.rightward, label, n, wanted, sieve, positions);
-        if x == w.last {
-            return Tally::Labels(n);
-        }
-        x = walk::leads(w, lefts, rights, x);
-        if x == 0 {
-            return Tally::Broken;
+        let next = walk::leads(w, lefts, rights, x);
+        match next {
+            Led::Last => {
+                return Tally::Labels(n);
+            }
+            Led::Broken => {
+                return Tally::Broken;
+            }
+            Led::Slot(y) => {
+                x = y;
+            }
         }
     }
     Tally::Broken
@@ -195,14 +202,11 @@ fn search(
     wanted: &[u32],
     positions: &mut [u64],
 ) -> Sought
-    requires { ⌜ (length (now wanted) ≤ 32) × (now positions ≡ replicate 32 0) ⌝ }
+    requires { ⌜ (length (now wanted) ≤ 32) × ((now positions ≡ replicate 32 0) × (from1 (w .slots) (w .first) ≡ true)) ⌝ }
     ensures { λ r.
         ⌜ _≡_ {A = FindReply} (record { code = r .code; rows = r .rows; positions = now (positions .exit) })
         (foundIn (turnedBack w (ahead w (now (lefts .entry)) (now (rights .entry)) (now (labels .entry)))) (now (wanted .entry))) ⌝ }
 {
-    if !sound::from1(w.slots, w.first) {
-        return Sought { code: 34, rows: 0 };
-    }
     let mut sieve: [u64; 16] = [0; 16];
     let walked = look(w, lefts, rights, labels, wanted, &mut sieve, positions);
     let Tally::Labels(rows) = walked else {
@@ -241,19 +245,30 @@ pub extern "C" fn zc_find(
             positions: [0; 32],
         };
     }
-    let w = walk::begin(c);
-    if walk::none_on(w) {
-        return FindReply {
-            code: 0,
-            rows: 0,
-            positions: [0; 32],
-        };
-    }
-    let mut positions: [u64; 32] = [0; 32];
-    let r = search(w, lefts, rights, labels, wanted, &mut positions);
-    FindReply {
-        code: r.code,
-        rows: r.rows,
-        positions,
+    let start = walk::begin(c);
+    match start {
+        Beginning::Empty => {
+            return FindReply {
+                code: 0,
+                rows: 0,
+                positions: [0; 32],
+            };
+        }
+        Beginning::Unsound => {
+            return FindReply {
+                code: 34,
+                rows: 0,
+                positions: [0; 32],
+            };
+        }
+        Beginning::At(w) => {
+            let mut positions: [u64; 32] = [0; 32];
+            let r = search(w, lefts, rights, labels, wanted, &mut positions);
+            return FindReply {
+                code: r.code,
+                rows: r.rows,
+                positions,
+            };
+        }
     }
 }

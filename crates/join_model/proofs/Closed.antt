@@ -1,12 +1,12 @@
 -- The joining by pushes is the joining word by word.
 use mathlib.Core.{Path.{_≡_, refl, sym, ap, _∙_}, Bool.{Bool, true, false, cond}, List.{List, [], _∷_, _++_}}
-use Prim.Native.Nat.{ℕ, _≤_}
+use Prim.Native.Nat.{ℕ, _<_, _≤_}
 use lib.{Dec.eqb, ListN.length}
-use borrow.Author.Tests.{eqb-true, ltb-false, not-false}
+use borrow.Author.Tests.{eqb-true, ltb-false, ltb-true, not-false}
 use Rattle.model.specs.{Tables.Queue, Report.busy, History.run, Lists.All, Walk.{contents, isBroken}}
 use Rattle.model.{specs.Refusals.{Rule, rule, first}, proofs.tests.{Rules.{tests, cleared}, Truth.{and-true, split}}}
-use Rattle.join_model.specs.Join.{anchorIn, lanes, pushes, outcomes, anyLate, sourceFits, thirdFits, atRest, join}
-use Rattle.join_model.specs.Join.{fresh, rulesBefore33, joinRules, joinRefusal, Joined, joined}
+use Rattle.join_model.specs.Join.{anchorIn, lanes, pushes, outcomes, anyLate, sourceTests, sourceFits, thirdFits}
+use Rattle.join_model.specs.Join.{atRest, fresh, rulesBefore33, joinRules, joinRefusal, Joined, joined, join}
 use Rattle.join_model.specs.Closed.{lateFor, held, holding, closedRefusal, joinClosed}
 use Rattle.join_model.specs.Laws.{ClosedForm, AllAnswered, NotLent, answers, besides}
 use Rattle.join_model.proofs.{Fresh.{Fresh, is-fresh}, Ran.Ran, Lanes.{late-is, pushed-is}}
@@ -21,8 +21,9 @@ same-last (r ∷ l) n b c h = go (r .applies) refl (λ g. same-last l n b c g)
     go true e more = rw e
     go false e more = rw e (more (λ z. h (rw e z)))
 
--- What the rules before 33 leave: of a source, that it is STABLE and its walk is not broken.
+-- What the rules before 33 leave: of a source, that its Left words are there, it is STABLE and its walk is not broken.
 pub record Rests (q : Queue) : Type 0 where
+  pub rows : q .tables .control .slots < length (q .tables .lefts)
   pub stable : anchorIn q .status ≡ 0
   pub walks : isBroken (contents (q .tables)) ≡ false
 
@@ -32,19 +33,23 @@ pub record Admitted (a b q : Queue) : Type 0 where
   pub third : Fresh q
   pub room : length (lanes a b) ≤ q .tables .control .slots
 
-rests : (q : Queue) → atRest q ≡ true → isBroken (contents (q .tables)) ≡ false → Rests q
-unfolding atRest
-rests q e w = record { stable = eqb-true _ _ (and-true (eqb (busy q) 0) (eqb (anchorIn q .status) 0) e .1); walks = w }
+rests : (q : Queue) → sourceFits q ≡ true → atRest q ≡ true → isBroken (contents (q .tables)) ≡ false → Rests q
+unfolding sourceFits atRest
+rests q f e w = record {
+  rows = ltb-true _ _ (tests (sourceTests q) f .0);
+  stable = eqb-true _ _ (and-true (eqb (busy q) 0) (eqb (anchorIn q .status) 0) e .1);
+  walks = w;
+}
 
 admit : (a b q : Queue) (more : List Rule) → All (λ (r : Rule). r .applies ≡ false) (rulesBefore33 a b q ++ more) → Admitted a b q
 admit a b q more z =
     let later = z .1 .1 .1 in
+    let fit = tests (sourceFits a ∷ sourceFits b ∷ thirdFits q ∷ []) (not-false _ (later .0)) in
     let rest = tests (atRest a ∷ atRest b ∷ fresh q ∷ []) (not-false _ (later .1 .1 .1 .0)) in
     record {
-      first = rests a (rest .0) (later .1 .0);
-      second = rests b (rest .1 .0) (later .1 .1 .0);
-      third =
-          is-fresh q (not-false _ (z .1 .1 .0)) (tests (sourceFits a ∷ sourceFits b ∷ thirdFits q ∷ []) (not-false _ (later .0)) .1 .1 .0) (rest .1 .1 .0);
+      first = rests a (fit .0) (rest .0) (later .1 .0);
+      second = rests b (fit .1 .0) (rest .1 .0) (later .1 .1 .0);
+      third = is-fresh q (not-false _ (z .1 .1 .0)) (fit .1 .1 .0) (rest .1 .1 .0);
       room = ltb-false _ _ (later .1 .1 .1 .1 .0);
     }
 

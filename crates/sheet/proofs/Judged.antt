@@ -4,15 +4,16 @@ use Prim.Native.Nat.{ℕ, _≤_}
 use native.Mathlib.Omega.{arith}
 use lib.{Dec.{eqb, leb}, ListN.length}
 use borrow.Author.Tests.{leb-true}
-use Rattle.model.specs.{declared.Control.Control, Tables.Tables, Sound.{controlTests, controlSound, from1, rowsFit}}
+use Rattle.model.specs.{declared.Control.Control, Tables.Tables, Sound.{controlTests, controlSound, rowsFit}}
 use Rattle.model.specs.Walk.{Walk, entries, broken, walkFrom, contents, isBroken, met}
-use Rattle.model.proofs.tests.{Truth.{split, and-true}, Rules.tests}
+use Rattle.model.proofs.tests.{Truth.and-true, Rules.tests}
 use Rattle.sheet_model.specs.{declared.SheetReply.SheetReply, Sheet.{Sheet, malformed}, Words.linked}
 use Rattle.sheet_model.{specs.Verdict.{refused, verdict, judge}, proofs.Formed.{Formed, formed}}
 use Rattle.sheet.specs.{Squares.{Row, byteRow, crossed}, Extents.{Extents, gathered, extents, told}}
 use Rattle.sheet.specs.{Refusals.unfit, Search.inRows}
-use Rattle.walk.specs.{declared.Way.Way, Ways.{wayOf, noneOn, linksOn, ahead}, Over.{Made, made, lost}}
-use Rattle.walk.proofs.Along.{nowhere, nothing, waits, off}
+use Rattle.walk.specs.declared.{Beginning.{Beginning, the-variants.{At, Empty, Unsound}}, Way.Way}
+use Rattle.walk.specs.{Ways.{wayOf, beginningOf, linksOn, ahead, walkBy}, Over.{Made, made, lost}}
+use Rattle.walk.proofs.Along.{waits, begins-at}
 use Rattle.sheet.proofs.{Broken.found-verdict, Rounds.{Shows, marks}, ByteRows.{bytes, bytes-show}, Noted.unseen}
 use Rattle.sheet.proofs.Gather.{Short, along-short}
 
@@ -24,7 +25,7 @@ slots-few c e =
 
 -- The extents as the call finds them.
 abbrev pub extentsIn : Sheet → Tables → Made Extents
-extentsIn s q = extents (wayOf (q .control)) (s .listed) (q .lefts) (q .rights) (q .labels) unseen
+extentsIn s q = extents (beginningOf (q .control)) (s .listed) (q .lefts) (q .rights) (q .labels) unseen
 
 -- As the code tells them.
 module _ (sound : Bool) (low high : List ℕ) {m : Made Extents} where
@@ -55,22 +56,20 @@ module _ (s : Sheet) {A : Type 0} (r : Row A) (R : (ℕ → Bool) → A) (law : 
   shorter n broken h g = tt
 
   module _ (q : Tables) (few : q .control .slots ≤ 1023) where
-    abbrev w : Way
-    w = wayOf (q .control)
-
-    short : Short 1023 (ahead w (q .lefts) (q .rights) (q .labels))
+    short : (w : Way) → w ≡ wayOf (q .control) → Short 1023 (ahead w (q .lefts) (q .rights) (q .labels))
     unfolding wayOf
-    short = shorter (w .slots) (ahead w (q .lefts) (q .rights) (q .labels)) few
+    short w e = shorter (w .slots) (ahead w (q .lefts) (q .rights) (q .labels)) (rw e few)
         (along-short (w .slots) (linksOn w (q .lefts) (q .rights)) (q .labels) (w .last) (w .slots) (w .first))
 
     pub gives-verdict : GivesVerdict (extentsIn s q) (contents q)
     unfolding extents
-    gives-verdict =
-        split (noneOn w)
-        (λ y. rw (y, nothing q w refl y) (of-walk true (entries []) (omega arith)))
-        (λ y. split (from1 (w .slots) (w .first))
-        (λ z. rw (y, waits q w refl z) (of-walk (w .rightward) (ahead w (q .lefts) (q .rights) (q .labels)) short))
-        (λ z. rw (y, off q w refl z y, nowhere w (q .lefts) (q .rights) (q .labels) (w .slots) (w .first) z) refl))
+    gives-verdict = subst (GivesVerdict (extentsIn s q)) (sym (waits q (beginningOf (q .control)) refl)) (go (beginningOf (q .control)) refl)
+      where
+        go : (b : Beginning) → b ≡ beginningOf (q .control)
+            → GivesVerdict (extents b (s .listed) (q .lefts) (q .rights) (q .labels) unseen) (walkBy b (q .lefts) (q .rights) (q .labels))
+        go Empty e = of-walk true (entries []) (omega arith)
+        go Unsound e = refl
+        go (At w) e = of-walk (w .rightward) (ahead w (q .lefts) (q .rights) (q .labels)) (short w (begins-at (q .control) w e .0))
 
 -- What stands before the walk applies, or doesn't.
 unfit-none : (a b c : Bool) → unfit a b c ≡ 0 → (a ≡ true) × (b ≡ false) × (c ≡ true)
