@@ -61,7 +61,8 @@ shown_CALLS() {
     rows | awk '$1 == "tables" { printf "| bytes of the tables | | %s | %s | %s |\n", $3, $4, $5; next }
         { printf "| `%s` | %s | %s | %s | %s |\n", $1, $2, $3, $4, $5 }'
     echo
-    echo "Bytes of stack of the others: $(other_stacks '`%s` %s')."
+    # in two sentences: those that threads' whole calls and steps are made of, zc_plan and what follows it, apart
+    echo "Bytes of stack of the others: $(other_stacks '`%s` %s')." | sed 's/, `zc_plan`/. Of what threads call: `zc_plan`/'
     echo
     echo "Bytes of code, by the part of the library: $(code); a program links the parts whose calls it makes."
 }

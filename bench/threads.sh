@@ -1,12 +1,12 @@
 #!/bin/bash
 # Threads on one queue: zeppolecape_atomic.h against a mutex around the proved calls, a mutex around a
-# plain ring, and the algorithm by hand with atomics. Prints three tables in Markdown, in about four
+# plain ring, and the algorithm by hand with atomics. Prints three tables in Markdown, in about five
 # minutes; run it on an idle machine, of at least two cores.
 #
 #     bench/threads.sh [FOLDER]             of libzeppolecape.a; default: target/lib, where `make` writes it
 #     bench/threads.sh --write [FOLDER]     also writes the tables into bench/README.md
 #
-# CXX (g++), PAIRS (2000000), TIMES (5) and SECONDS_EACH (3) may be set.
+# CXX (g++), PAIRS (2000000), TIMES (9) and SECONDS_EACH (3) may be set.
 set -eu -o pipefail
 write=
 [ "${1:-}" != --write ] || { write=yes; shift; }
@@ -14,7 +14,7 @@ folder=$(realpath "${1:-$(dirname "$0")/../target/lib}")
 cd "$(dirname "$0")"
 CXX=${CXX:-g++}
 PAIRS=${PAIRS:-2000000}
-TIMES=${TIMES:-5}
+TIMES=${TIMES:-9}
 SECONDS_EACH=${SECONDS_EACH:-3}
 COUNTED=20000
 work=$(mktemp -d)
@@ -38,14 +38,37 @@ beside_mutex() {
         }' "$work/pairs"
 }
 
+# Of rows that stand in several runs: each once, every figure the median of its own.
+medians() {
+    awk -F '|' '
+        !($2 in seen) { seen[$2] = ++rows; name[rows] = $2 }
+        { at = seen[$2]; times[at]++; for (n = 3; n <= 5; n++) all[at, n, times[at]] = $n + 0 }
+        END {
+            for (at = 1; at <= rows; at++) {
+                printf "|%s|", name[at]
+                for (n = 3; n <= 5; n++) {
+                    for (i = 2; i <= times[at]; i++) {
+                        v = all[at, n, i]
+                        for (j = i - 1; j >= 1 && all[at, n, j] > v; j--) all[at, n, j + 1] = all[at, n, j]
+                        all[at, n, j + 1] = v
+                    }
+                    printf " %.2f |", all[at, n, int((times[at] + 1) / 2)]
+                }
+                print ""
+            }
+        }'
+}
+
 tables() {
     echo "$(sed -n 's/^model name[^:]*: //p' /proc/cpuinfo | head -1), $(nproc) cores; $($CXX --version | head -1), -O3; load $(cut -d ' ' -f 1 /proc/loadavg)."
     echo
-    echo "Million pairs of push and pop a second, by all threads together; median of $TIMES runs of $PAIRS pairs."
+    echo "Million pairs of push and pop a second, by all threads together; median of $TIMES runs of $PAIRS pairs, each a process of its own,"
+    echo "since where the system lays its stack and tables moves a figure by up to a fifth."
     echo
     echo "| | 1 thread | 2 | 4 |"
     echo "|---|---|---|---|"
-    "$work/threads" pairs "$PAIRS" "$TIMES" | tee "$work/pairs"
+    for run in $(seq "$TIMES"); do "$work/threads" pairs "$PAIRS" 1; done >"$work/runs"
+    medians <"$work/runs" | tee "$work/pairs"
     echo
     beside_mutex
     echo

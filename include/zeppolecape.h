@@ -71,14 +71,16 @@
  *   zc_pop             40        98        98        98
  *   zc_step           120       198       198       198
  *   zc_step_record    128       194       194       194
- *   zc_run            168      1753      2829      2967
- *   zc_report         216       202       349     13767
+ *   zc_run            168      1720      2793      2921
+ *   zc_report         216       208       355     13770
  *   table bytes         -       240       816     30120
  *   stack bytes of the others: zc_waiting 72, zc_find 504, zc_sheet 1576, zc_sheet_words 552,
- *   zc_join 184, zc_save 152, zc_return 104, zc_next_schedule 25864, zc_serve 288,
- *   zc_audit 176, zc_plan 112, zc_settle_plan 208, zc_plan_start 32, zc_settle_start 40
- *   code bytes: audit 711, capi 9379, capi_record 4198, capi_run 7389, find 3111, join 3377,
- *   schedule 7736, serve 8840, sheet 3283, shelf 3713, touch 9457, waiting 704
+ *   zc_join 192, zc_save 152, zc_return 104, zc_next_schedule 25864, zc_serve 272,
+ *   zc_audit 176, zc_plan 112, zc_settle_plan 224, zc_settle_unasked 272, zc_plan_start 32,
+ *   zc_settle_start 40, zc_start_loaded 16
+ *   code bytes: audit 711, capi 9211, capi_record 4187, capi_run 7017, find 3125, join 3230,
+ *   schedule 7610, serve 8838, sheet 3298, shelf 3713, touch 9803, touch_call 8599,
+ *   waiting 686
  * As to the machine: x86-64, System V calling convention. The code uses the red zone (128 bytes
  * below the stack pointer) and SSE registers, no AVX: an interrupt handler that makes a call saves
  * the SSE state first, and an interrupt that is not masked during a call leaves the red zone alone.

@@ -13,14 +13,11 @@ use places::links;
 use places::pool;
 use sound::Lengths;
 use sound::admission;
-ghost use mathlib.Core.Path.{_≡_};
-ghost use mathlib.Core.List.{List};
+ghost use mathlib.Core.{Path._≡_, List.List};
 ghost use Prim.Native.Nat.{ℕ};
 ghost use lib.Dec.{leb, ltb};
-ghost use Rattle.model.specs.Tables.{tablesOf};
-ghost use Rattle.model.specs.Places.{row};
-ghost use Rattle.model.specs.Refusals.{stepRefusal};
-ghost use Rattle.asking.specs.Asked.{whyNot, whyUnchanged, touchRefusal};
+ghost use Rattle.model.specs.{Tables.tablesOf, Places.row, Refusals.stepRefusal};
+ghost use Rattle.asking.specs.WhyRefused.{whyNot, whyUnchanged, touchRefusal};
 
 /// The slot whose row or mark the record's place touches, at 17 the one that it gives back; 0: none.
 pub fn row_of(r: Call) -> u64
@@ -56,13 +53,10 @@ fn why_not(m: Transition) -> u32
 fn why_unchanged(c: Control, r: Call, new: u64) -> u32
     ensures { λ n. ⌜ n ≡ whyUnchanged c r new ⌝ }
 {
-    if c.anchor != r.seen {
-        return 0;
-    }
-    if step::may_change(c.slots, r.seen, new) {
-        0
-    } else {
+    if step::change_refused(c, r, new) {
         34
+    } else {
+        0
     }
 }
 
@@ -126,16 +120,14 @@ pub fn refusal(
         marks: marks.len(),
         next: next.len(),
     };
-    let why = admission::admit(c, task, t);
+    let why = admission::admit_step(c, task, t);
     if why != 0 {
         return why;
     }
     let pooled = c.pooled == 1;
-    if !sound::record_sound(pooled, c.slots, r) {
-        return 34;
-    }
-    if r.place == 0 {
-        return 31;
+    let unfit = sound::record_refusal(pooled, c.slots, r);
+    if unfit != 0 {
+        return unfit;
     }
     touch_refusal(c, r, lefts, rights, labels, next)
 }

@@ -1,14 +1,11 @@
 -- Labels from one index of a list up to another: an end moved by one, and the label there. The list is a buffer's labels.
-use mathlib.Core.Bool.{Bool, true, false, _&&_, cond}
+use mathlib.Core.{Bool.{Bool, true, false, _&&_, cond}, Path.{_≡_, refl, sym, ap, _∙_, subst}}
 use mathlib.Core.List.{List, [], _∷_, _++_, map, reverse, reverse-cons, reverse-reverse}
-use mathlib.Core.Path.{_≡_, refl, sym, ap, _∙_, subst}
 use Prim.Native.Nat.{ℕ, zero, suc, _+_, _-_, _<_, _≤_}
-use native.Mathlib.Decide.{ℕ-discrete}
-use native.Mathlib.Numerals.{add-one}
-use native.Mathlib.Omega.{arith}
-use lib.Dec.{eqb}
-use lib.ListN.{length, getD, set, take, drop, length-set, replicate}
-use lib.Seq.{slice, slice-cons, slice-empty, length-take-le, take-suc, take-suc-set, take-set-lt, drop-set-lt, drop-append-le, getD-set-other, getD-set-same}
+use native.Mathlib.{Decide.ℕ-discrete, Numerals.add-one, Omega.arith}
+use lib.{Dec.eqb, ListN.{length, getD, set, take, drop, length-set, replicate}}
+use lib.Seq.{slice, slice-cons, slice-empty, length-take-le, take-suc, take-suc-set, take-set-lt, drop-set-lt}
+use lib.Seq.{drop-append-le, getD-set-other, getD-set-same}
 use borrow.Author.Tests.{eq-eqb, ne-eqb}
 use Rattle.model.specs.Deque.{seenFrom}
 use Rattle.audit_model.specs.Audit.{agrees, takeLabel}

@@ -1,7 +1,7 @@
 pub mod Loops
 pub mod WordsRead
-pub mod Named
-pub mod Early
+pub mod Listed
+pub mod Misplaced
 pub mod Buffer
 pub mod Turn
 pub mod Verdicts

@@ -1,12 +1,8 @@
 -- Tests of each element and of each two: of a list by its first element, and of what is left of one from an index on.
-use mathlib.Core.Bool.{Bool, true, false, _&&_}
-use mathlib.Core.List.{List, [], _∷_}
-use mathlib.Core.Path.{_≡_, refl, sym, ap, _∙_}
+use mathlib.Core.{Bool.{Bool, true, false, _&&_}, List.{List, [], _∷_}, Path.{_≡_, refl, sym, ap, _∙_}}
 use Prim.Native.Nat.{ℕ, zero, suc, _+_, _<_}
-use native.Mathlib.Numerals.{add-one}
-use native.Mathlib.Omega.{arith}
-use lib.ListN.{length, getD, drop}
-use lib.Seq.{drop-cons}
+use native.Mathlib.{Numerals.add-one, Omega.arith}
+use lib.{ListN.{length, getD, drop}, Seq.drop-cons}
 use Rattle.model.proofs.tests.Truth.{and-true}
 use Rattle.audit_model.specs.Audit.{allOf, pairwise}
 

@@ -1,26 +1,21 @@
 -- One turn of the replay, at index i of the order: call c with the calls behind it, from queue q. No position before `first` stands too early.
-use mathlib.Core.Bool.{Bool, true, false, _&&_, cond}
-use mathlib.Core.List.{List, _∷_}
-use mathlib.Core.Path.{_≡_, refl}
+use mathlib.Core.{Bool.{Bool, true, false, _&&_, cond}, List.{List, _∷_}, Path.{_≡_, refl}}
 use Prim.Native.Nat.{ℕ, suc, _+_, _<_}
-use native.Mathlib.Numerals.{add-one}
-use native.Mathlib.Omega.{arith}
+use native.Mathlib.{Numerals.add-one, Omega.arith}
 use Rattle.model.proofs.tests.Truth.{split}
-use Rattle.audit_model.specs.declared.Finished.{Finished}
-use Rattle.audit_model.specs.declared.Verdict.the-variants.{Failed}
+use Rattle.audit_model.specs.{declared.{Finished.Finished, Verdict.the-variants.Failed}, Laws.answers}
 use Rattle.audit_model.specs.Audit.{allOf, gives, notEarlier, replay}
-use Rattle.audit_model.specs.Laws.{answers}
-use Rattle.audit.specs.FirstEarly.{firstEarly}
+use Rattle.audit.specs.FirstMisplaced.{firstMisplaced}
 
-module _ (c : Finished) (rest : List Finished) (i first : ℕ) (is : i + firstEarly (c ∷ rest) ≡ first) where
-  not-early : i < first → (allOf (notEarlier c) rest ≡ true) × (i + 1 + firstEarly rest ≡ first)
-  unfolding firstEarly
-  not-early h = split (allOf (notEarlier c) rest)
+module _ (c : Finished) (rest : List Finished) (i first : ℕ) (is : i + firstMisplaced (c ∷ rest) ≡ first) where
+  not-misplaced : i < first → (allOf (notEarlier c) rest ≡ true) × (i + 1 + firstMisplaced rest ≡ first)
+  unfolding firstMisplaced
+  not-misplaced h = split (allOf (notEarlier c) rest)
       (λ t. (t, let z = rw t at is in omega arith))
       (λ t. absurd (let z = rw t at is in omega arith))
 
-  pub next-early : i < first → i + 1 + firstEarly rest ≡ first
-  next-early h = not-early h .1
+  pub next-misplaced : i < first → i + 1 + firstMisplaced rest ≡ first
+  next-misplaced h = not-misplaced h .1
 
   module _ (q : List ℕ) where
     pub fails : i < first → answers c q ≡ false → Failed (i + 1) ≡ replay (i + 1) (c ∷ rest) q
@@ -29,10 +24,10 @@ module _ (c : Finished) (rest : List Finished) (i first : ℕ) (is : i + firstEa
 
     pub goes-on : i < first → answers c q ≡ true → (r : List ℕ) → r ≡ gives c q .queue → replay (i + 1 + 1) rest r ≡ replay (i + 1) (c ∷ rest) q
     unfolding replay
-    goes-on h e r k = rw (e, not-early h .0, k, add-one (i + 1))
+    goes-on h e r k = rw (e, not-misplaced h .0, k, add-one (i + 1))
 
     pub stops : (i < first → ⊥) → Failed (i + 1) ≡ replay (i + 1) (c ∷ rest) q
-    unfolding replay firstEarly
+    unfolding replay firstMisplaced
     stops h = split (allOf (notEarlier c) rest)
         (λ t. absurd (let z = rw t at is in h (omega arith)))
         (λ t. rw t (go (answers c q)))

@@ -1,18 +1,13 @@
 -- The verdict from its parts.
-use mathlib.Core.Bool.{true, false, _&&_}
-use mathlib.Core.List.{List, [], _∷_}
-use mathlib.Core.Path.{_≡_, refl, sym, ap, _∙_}
+use mathlib.Core.{Bool.{true, false, _&&_}, List.{List, [], _∷_}, Path.{_≡_, refl, sym, ap, _∙_}}
 use Prim.Native.Nat.{ℕ, _/_, _<_, _≤_}
 use native.Mathlib.Omega.{arith}
-use lib.Dec.{eqb, leb}
-use lib.ListN.{length, drop}
+use lib.{Dec.{eqb, leb}, ListN.{length, drop}}
 use borrow.Author.Tests.{eq-eqb, eqb-true, le-leb, leb-true, lt-leb, ne-eqb}
-use Rattle.model.specs.Sound.{from1}
-use Rattle.model.proofs.tests.Truth.{and-true, not-both, split}
-use Rattle.audit_model.specs.declared.Finished.{Finished}
-use Rattle.audit_model.specs.declared.Verdict.the-variants.{Failed, Passed, Refused}
-use Rattle.audit_model.specs.Audit.{accepted, allOf, apart, differ, inOrder, pairwise, rearranges, replay, verdict, wellFormed}
-use Rattle.audit_model.specs.LentHistory.{callsFrom, callsIn}
+use Rattle.model.{specs.Sound.from1, proofs.tests.Truth.{and-true, not-both, split}}
+use Rattle.audit_model.specs.declared.{Finished.Finished, Verdict.the-variants.{Failed, Passed, Refused}}
+use Rattle.audit_model.specs.Audit.{accepted, allOf, apart, differ, inOrder, pairwise, rearranges, replay, verdict}
+use Rattle.audit_model.specs.{Audit.wellFormed, LentHistory.{callsFrom, callsIn}}
 use Rattle.audit.proofs.Loops.{passes, passes-from}
 
 module _ (cs : List Finished) (n : ℕ) (len : length cs ≡ n) where

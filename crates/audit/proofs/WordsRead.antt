@@ -1,16 +1,11 @@
 -- Calls read from words.
-use mathlib.Core.Bool.{true}
-use mathlib.Core.List.{List, _∷_}
-use mathlib.Core.Path.{_≡_, refl, sym, ap, _∙_}
+use mathlib.Core.{Bool.true, List.{List, _∷_}, Path.{_≡_, refl, sym, ap, _∙_}}
 use Prim.Native.Nat.{ℕ, zero, suc, _+_, _-_, _/_, _<_, _≤_}
 use native.Mathlib.Omega.{arith}
-use lib.Dec.{leb}
-use lib.ListN.{length, getD, drop}
+use lib.{Dec.leb, ListN.{length, getD, drop}}
 use borrow.Author.Tests.{leb-true}
-use Rattle.model.specs.Sound.{from1}
-use Rattle.model.proofs.tests.Truth.{and-true}
-use Rattle.audit_model.specs.declared.Finished.{Finished}
-use Rattle.audit_model.specs.Audit.{allOf, inOrder, nobody, numbered}
+use Rattle.model.{specs.Sound.from1, proofs.tests.Truth.and-true}
+use Rattle.audit_model.specs.{declared.Finished.Finished, Audit.{allOf, inOrder, nobody, numbered}}
 use Rattle.audit_model.specs.LentHistory.{callAt, callsFrom, callsIn}
 use Rattle.audit.proofs.Loops.{all-at, drop-next}
 

@@ -1,14 +1,9 @@
 -- A plain queue of labels, held as the indices of the calls that pushed them: those of a buffer from index low up to, not including, high.
-use mathlib.Core.Bool.{Bool}
-use mathlib.Core.List.{List, _∷_, map}
-use mathlib.Core.Path.{_≡_}
+use mathlib.Core.{Bool.Bool, List.{List, _∷_, map}, Path._≡_}
 use Prim.Native.Nat.{ℕ, _+_, _-_, _/_, _<_, _≤_}
-use lib.ListN.{length, getD}
-use lib.Seq.{slice}
+use lib.{ListN.{length, getD}, Seq.slice}
 use Rattle.model.specs.Deque.{seenFrom}
-use Rattle.audit_model.specs.declared.Finished.{Finished}
-use Rattle.audit_model.specs.Audit.{Given, agrees, nobody}
-use Rattle.audit_model.specs.LentHistory.{callsIn}
+use Rattle.audit_model.specs.{declared.Finished.Finished, Audit.{Given, agrees, nobody}, LentHistory.callsIn}
 
 -- The label of the call at index k; the labels held.
 abbrev pub labelAt : List ℕ → ℕ → ℕ

@@ -1,2 +1,2 @@
 pub mod LabelQueue
-pub mod FirstEarly
+pub mod FirstMisplaced

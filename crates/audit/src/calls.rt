@@ -4,8 +4,7 @@ ghost use mathlib.Core.Path.{_≡_};
 ghost use Prim.Native.Nat.{_/_, _≤_, _<_};
 ghost use lib.ListN.{length, getD, drop};
 ghost use Rattle.audit_model.specs.Audit as meaning;
-ghost use Rattle.audit_model.specs.Audit.{allOf, wellFormed};
-ghost use Rattle.audit_model.specs.LentHistory.{callsIn};
+ghost use Rattle.audit_model.specs.{Audit.{allOf, wellFormed}, LentHistory.callsIn};
 
 pub fn call_at(words: &[u64], i: usize) -> Finished
     requires { ⌜ i < length (now words) / 7 ⌝ }

@@ -3,33 +3,30 @@
 //!
 //! A history is lent as words, seven a call (`Finished`), and read in place; the only memory besides is 128 bytes for the queue.
 //! Sixty-four calls take some 2,000 comparisons of two calls, each held against every other for its events; the order is gone
-//! through once for numbers named twice, once for the first position that stands too early, and once to serve the calls.
+//! through once for numbers listed twice, once for the first position that stands too early, and once to serve the calls.
 mod calls;
 mod labels;
 mod order;
 
 use audit_model::Verdict;
 use audit_model::VerdictReply;
-ghost use mathlib.Core.Bool.{true};
-ghost use mathlib.Core.List.{[]};
-ghost use mathlib.Core.Path.{_≡_};
+ghost use mathlib.Core.{Bool.true, List.[], Path._≡_};
 ghost use Prim.Native.Nat.{_/_, _≤_};
 ghost use lib.ListN.{length};
 ghost use Rattle.model.specs.Sound.{from1};
-ghost use Rattle.audit_model.specs.Audit.{allOf, inOrder, replay, verdict};
-ghost use Rattle.audit_model.specs.LentHistory.{callsIn, verdictReply};
-ghost use Rattle.audit.specs.FirstEarly.{firstEarly};
+ghost use Rattle.audit_model.specs.{Audit.{allOf, inOrder, replay, verdict}, LentHistory.{callsIn, verdictReply}};
+ghost use Rattle.audit.specs.FirstMisplaced.{firstMisplaced};
 
 // The calls up to the first position that stands too early, which fails whatever it answers.
-fn served(words: &[u64], order: &[u64], early: usize) -> Verdict
+fn served(words: &[u64], order: &[u64], misplaced: usize) -> Verdict
     requires { ⌜ (length (now words) / 7 ≤ 64) × (length (now order) ≤ 64) × (allOf (from1 (length (now words) / 7)) (now order) ≡ true)
-        × (early ≡ firstEarly (inOrder (callsIn (now words)) (now order))) ⌝ }
+        × (misplaced ≡ firstMisplaced (inOrder (callsIn (now words)) (now order))) ⌝ }
     ensures { λ r. ⌜ r ≡ replay 1 (inOrder (callsIn (now (words .entry))) (now (order .entry))) [] ⌝ }
 {
     let mut buffer = [0; 128];
     let mut low: usize = 64;
     let mut high: usize = 64;
-    for i in 0..early {
+    for i in 0..misplaced {
         let s = labels::serve_label(words, (order[i] - 1) as usize, &mut buffer, low, high);
         if !s.same {
             return Verdict::Failed(i as u32 + 1);
@@ -37,8 +34,8 @@ fn served(words: &[u64], order: &[u64], early: usize) -> Verdict
         low = s.low;
         high = s.high;
     }
-    if early < order.len() {
-        return Verdict::Failed(early as u32 + 1);
+    if misplaced < order.len() {
+        return Verdict::Failed(misplaced as u32 + 1);
     }
     Verdict::Passed
 }
@@ -54,8 +51,8 @@ pub fn audit_words(words: &[u64], order: &[u64]) -> Verdict
     if !order::is_rearranged(order, words.len() / 7) {
         return Verdict::Failed(0);
     }
-    let early = order::first_early(words, order);
-    served(words, order, early)
+    let misplaced = order::first_misplaced(words, order);
+    served(words, order, misplaced)
 }
 
 fn reply(v: Verdict) -> VerdictReply

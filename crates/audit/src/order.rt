@@ -1,14 +1,11 @@
 //! The claimed order, looked at from its end: whether it names every call once, and its first position that stands too early.
 use crate::calls;
-ghost use mathlib.Core.Bool.{true, cond};
-ghost use mathlib.Core.Path.{_≡_};
+ghost use mathlib.Core.{Bool.{true, cond}, Path._≡_};
 ghost use Prim.Native.Nat.{_/_, _≤_, min};
-ghost use lib.Dec.{ltb};
-ghost use lib.ListN.{length};
+ghost use lib.{Dec.ltb, ListN.length};
 ghost use Rattle.model.specs.Sound.{from1};
-ghost use Rattle.audit_model.specs.Audit.{allOf, inOrder, rearranges};
-ghost use Rattle.audit_model.specs.LentHistory.{callsIn};
-ghost use Rattle.audit.specs.FirstEarly.{firstEarly};
+ghost use Rattle.audit_model.specs.{Audit.{allOf, inOrder, rearranges}, LentHistory.callsIn};
+ghost use Rattle.audit.specs.FirstMisplaced.{firstMisplaced};
 
 fn known(k: u64, most: u64) -> bool
     ensures { λ r. ⌜ r ≡ from1 most k ⌝ }
@@ -16,7 +13,7 @@ fn known(k: u64, most: u64) -> bool
     (1 <= k) & (k <= most)
 }
 
-/// A mark for each number named behind the position.
+/// A mark for each number listed behind the position.
 pub fn is_rearranged(order: &[u64], n: usize) -> bool
     requires { ⌜ n ≤ 64 ⌝ }
     ensures { λ r. ⌜ r ≡ rearranges n (now (order .entry)) ⌝ }
@@ -24,7 +21,7 @@ pub fn is_rearranged(order: &[u64], n: usize) -> bool
     if order.len() != n {
         return false;
     }
-    let mut named = [0; 1];
+    let mut listed = [0; 1];
     let mut i = n;
     while 0 < i {
         i -= 1;
@@ -32,10 +29,10 @@ pub fn is_rearranged(order: &[u64], n: usize) -> bool
         if !known(k, n as u64) {
             return false;
         }
-        if table::marked(&named, k - 1) {
+        if table::marked(&listed, k - 1) {
             return false;
         }
-        table::set_mark(&mut named, k - 1);
+        table::set_mark(&mut listed, k - 1);
     }
     true
 }
@@ -54,9 +51,9 @@ fn sooner(least: u64, start: u64, i: usize, first: usize) -> usize
 }
 
 /// By the least answer event behind the position.
-pub fn first_early(words: &[u64], order: &[u64]) -> usize
+pub fn first_misplaced(words: &[u64], order: &[u64]) -> usize
     requires { ⌜ allOf (from1 (length (now words) / 7)) (now order) ≡ true ⌝ }
-    ensures { λ r. ⌜ r ≡ firstEarly (inOrder (callsIn (now (words .entry))) (now (order .entry))) ⌝ }
+    ensures { λ r. ⌜ r ≡ firstMisplaced (inOrder (callsIn (now (words .entry))) (now (order .entry))) ⌝ }
 {
     let mut least: u64 = 18446744073709551615;
     let mut first = order.len();

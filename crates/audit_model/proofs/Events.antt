@@ -1,29 +1,21 @@
 -- After an opening: no two of the positions where calls started or were answered are equal, and each side is left or right.
-use mathlib.Core.Bool.{Bool, true, false, _&&_, cond}
-use mathlib.Core.List.{List, [], _∷_}
-use mathlib.Core.Logic.{_≢_}
+use mathlib.Core.{Bool.{Bool, true, false, _&&_, cond}, List.{List, [], _∷_}, Logic._≢_}
 use mathlib.Core.Path.{_≡_, refl, sym, ap, _∙_, subst}
 use Prim.Native.Nat.{ℕ, suc, _<_, _≤_}
 use native.Mathlib.Omega.{arith}
 use lib.Dec.{eqb}
 use borrow.Author.Tests.{eqb-true}
-use Rattle.model.specs.declared.{Answer.Answer, Entry.Entry, Op.Op}
-use Rattle.model.specs.declared.Answer.the-variants.{Running, Pushed, Empty, Popped, NoFreeSlot}
-use Rattle.model.specs.declared.Op.the-variants.{Push, Pop, PushPooled, Step}
-use Rattle.model.specs.Calls.{Acted, Done, act, actOn, back, finish, popStart, pushStart, putStart, step}
-use Rattle.model.specs.Refusals.{among, popRefusal, pushRefusal, putRefusal, stepRefusal}
-use Rattle.model.specs.Tables.{Queue, recordAt}
-use Rattle.model.specs.History.{LedgerCall, Effect, Ending, Event, Ledger, Request, answered, pending}
-use Rattle.model.specs.History.{accept, attend, begins, continued, ended, isEffect, isOpen, ledgerFrom, note, over, run, stepOf}
-use Rattle.model.proofs.tests.Truth.{by-test}
-use Rattle.model.proofs.bridge.Accepted.{pop-accepted, push-accepted, put-accepted}
+use Rattle.model.specs.{declared.Answer.{Answer, the-variants.{Running, Pushed, Empty, Popped, NoFreeSlot}}, Lists.All}
+use Rattle.model.specs.declared.{Entry.Entry, Op.{Op, the-variants.{Push, Pop, PushPooled, Step}}}
+use Rattle.model.specs.Calls.{Acted, Done, act, actOn, back, finish, popStart, pushStart, pushPooledStart, step}
+use Rattle.model.specs.Refusals.{among, popRefusal, pushRefusal, pushPooledRefusal, stepRefusal}
+use Rattle.model.{specs.Tables.{Queue, recordAt}, proofs.tests.Truth.by-test}
+use Rattle.model.specs.History.{LedgerCall, Effect, Ending, Event, Ledger, Request, answered, pending, accept, attend}
+use Rattle.model.specs.History.{begins, continued, ended, isEffect, isOpen, ledgerFrom, note, over, run, stepOf}
+use Rattle.model.proofs.bridge.{Accepted.{pop-accepted, push-accepted, push-pooled-accepted}, View.stateOf}
+use Rattle.model.proofs.ledger.{EveryOperation.act-good, Matches.opens, Matched.{Matched, busyNo}}
 use Rattle.model.proofs.machine.Machine as M
-use Rattle.model.proofs.bridge.View.{stateOf}
-use Rattle.model.proofs.ledger.{EveryOperation.act-good, Matches.opens}
-use Rattle.model.proofs.ledger.Matched.{Matched, busyNo}
-use Rattle.model.specs.Lists.{All}
-use Rattle.audit_model.proofs.Lists.{Pairs, all-map, all-both}
-use Rattle.audit_model.proofs.Replayed.{attend-all}
+use Rattle.audit_model.proofs.{Lists.{Pairs, all-map, all-both}, Replayed.attend-all}
 
 -- Answered before position n, if answered; not answered at n.
 abbrev pub EndsBefore : ℕ → Ending → Type 0
@@ -177,13 +169,13 @@ module _ (n : ℕ) (q : Queue) (l : Ledger) (g : Matched n q l) (h : Tidy n (l .
   unchanged = record { past = all-map (past-later n) (l .calls) (h .past); apart = h .apart }
 
   pub act-tidy : (o : Op) → After o (act q t o)
-  unfolding act actOn pushStart putStart popStart step finish note accept
+  unfolding act actOn pushStart pushPooledStart popStart step finish note accept
   act-tidy (Push side x y) = by-test (Back (Push side x y)) (eqb (pushRefusal (q .tables) (among q t) (recordAt q t) side x) 0)
       (λ e. begin-tidy n t 0 side true _ (l .calls) (omega arith) (push-accepted q t side x (eqb-true _ _ e) .starting .side) h) (λ e. unchanged)
   act-tidy (Pop side) = by-test (Back (Pop side)) (eqb (popRefusal (q .tables) (among q t) (recordAt q t) side) 0)
       (λ e. begin-tidy n t 1 side false _ (l .calls) (omega arith) (pop-accepted q t side (eqb-true _ _ e) .side) h) (λ e. unchanged)
-  act-tidy (PushPooled side y) = by-test (Back (PushPooled side y)) (eqb (putRefusal (q .tables) (among q t) (recordAt q t) side) 0)
-      (λ e. begin-tidy n t 0 side false _ (l .calls) (omega arith) (put-accepted q t side (eqb-true _ _ e) .0 .side) h) (λ e. unchanged)
+  act-tidy (PushPooled side y) = by-test (Back (PushPooled side y)) (eqb (pushPooledRefusal (q .tables) (among q t) (recordAt q t) side) 0)
+      (λ e. begin-tidy n t 0 side false _ (l .calls) (omega arith) (push-pooled-accepted q t side (eqb-true _ _ e) .0 .side) h) (λ e. unchanged)
   act-tidy Step = by-test (Back Step) (eqb (stepRefusal (q .tables) (among q t) (recordAt q t)) 0)
       (λ e. attend-tidy n _ _ (l .deque) (l .calls) one-open h) (λ e. unchanged)
 

@@ -1,28 +1,22 @@
 -- A list of demand 3 with at most 64 calls, all answered, passes when it is written with its places as events and its effects as the order.
-use mathlib.Core.Bool.{Bool, true}
-use mathlib.Core.List.{List, [], _∷_, map, map-map}
-use mathlib.Core.Path.{_≡_, refl, sym, ap, _∙_, subst}
+use mathlib.Core.{Bool.{Bool, true}, List.{List, [], _∷_, map, map-map}, Path.{_≡_, refl, sym, ap, _∙_, subst}}
 use Prim.Native.Nat.{ℕ, suc, _≤_}
 use native.Mathlib.Omega.{arith}
 use lib.ListN.{length, length-map}
 use borrow.Author.Tests.{eq-eqb, le-leb, ne-eqb}
-use Rattle.model.specs.declared.Entry.{Entry}
-use Rattle.model.specs.{Calls.opened, Refusals.openRefusal, Sound.from1, Tables.Queue, Lists.All}
+use Rattle.model.specs.{declared.Entry.Entry, Calls.opened, Refusals.openRefusal, Sound.from1, Tables.Queue, Lists.All}
 use Rattle.model.specs.History.{LedgerCall, Lawful, Request, ledger, run}
-use Rattle.model.proofs.{Linearizable.linearized, Openings.after-opening}
-use Rattle.model.proofs.tests.Truth.{and-of}
+use Rattle.model.proofs.{Linearizable.linearized, Openings.after-opening, tests.Truth.and-of}
 use Rattle.model.proofs.ledger.Opened as start
-use Rattle.audit_model.specs.declared.Finished.{Finished}
-use Rattle.audit_model.specs.declared.Verdict.the-variants.{Passed}
-use Rattle.audit_model.specs.Audit.{accepted, allOf, apart, differ, notEarlier, numbered, rearranges, replay, verdict, wellFormed}
+use Rattle.audit_model.specs.declared.{Finished.Finished, Verdict.the-variants.Passed}
+use Rattle.audit_model.specs.Audit.{accepted, allOf, apart, differ, notEarlier, numbered, rearranges, replay}
+use Rattle.audit_model.specs.Audit.{verdict, wellFormed}
 use Rattle.audit_model.specs.Written.{HistoriesPass, IsAnswered, Passes, finished, written}
-use Rattle.audit_model.proofs.Taken.{Taken, order-is, takenOf}
-use Rattle.audit_model.proofs.Lists.{Pairs, all-append, all-both, all-map, all-mapped, all-of, pairs-mapped, pairs-of, pairs-snoc}
-use Rattle.audit_model.proofs.Order.{NotAfter}
-use Rattle.audit_model.proofs.Replayed.{Replays, replayed, servedIn}
-use Rattle.audit_model.proofs.Events.{Apart, Past, Tidy, run-tidy}
+use Rattle.audit_model.proofs.{OrderedEffects.{OrderedEffect, order-is, orderedEffects}, Order.NotAfter}
+use Rattle.audit_model.proofs.Lists.{Pairs, all-append, all-both, all-map, all-mapped, all-of, pairs-mapped}
+use Rattle.audit_model.proofs.{Lists.{pairs-of, pairs-snoc}, Replayed.{Replays, replayed, servedIn}}
+use Rattle.audit_model.proofs.{Events.{Apart, Past, Tidy, run-tidy}, SlotsDropped.{label-gives, labelsOf}}
 use Rattle.audit_model.proofs.Settled.{Suits, apart-written, formed, settled}
-use Rattle.audit_model.proofs.SlotsDropped.{label-gives, labelsOf}
 use Rattle.audit_model.proofs.Numbered.{IsSettled, Ordered, Within, finished-cons, finished-length, ordered}
 
 -- What a history may hold.
@@ -73,23 +67,23 @@ InRange n k = from1 n k ≡ true
 abbrev Distinct : ℕ → ℕ → Type 0
 Distinct j k = j ≡ k → ⊥
 
-in-range : (n : ℕ) (t : Taken) → Within n t → InRange n (t .number)
+in-range : (n : ℕ) (t : OrderedEffect) → Within n t → InRange n (t .number)
 in-range n t w = and-of (le-leb 1 (t .number) (w .low)) (le-leb (t .number) n (w .high))
 
-is-rearranged : (fs : List Finished) (n : ℕ) (l : List Taken) → Ordered fs n l → rearranges n (map (λ (t : Taken). t .number) l) ≡ true
+is-rearranged : (fs : List Finished) (n : ℕ) (l : List OrderedEffect) → Ordered fs n l → rearranges n (map (λ (t : OrderedEffect). t .number) l) ≡ true
 unfolding rearranges
 is-rearranged fs n l o =
-    let number : Taken → ℕ = λ t. t .number in
+    let number : OrderedEffect → ℕ = λ t. t .number in
     and-of (and-of (eq-eqb _ n (length-map l number ∙ o .count))
     (all-of {P = InRange n} (from1 n) (λ k h. h) (map number l) (all-mapped (InRange n) number l (all-map (in-range n) l (o .known)))))
     (pairs-of {R = Distinct} differ (λ j k h. rw (ne-eqb j k h)) (map number l) (pairs-mapped Distinct number l (o .differ)))
 
 -- Served in this order, every call gets its answer, and none stands before one that was answered before its start.
 module _ (fs : List Finished) where
-  abbrev at : Taken → Finished
+  abbrev at : OrderedEffect → Finished
   at t = numbered fs (t .number)
 
-  none-earlier : (t : Taken) (l : List Taken) → Suits (at t) t → All (λ (u : Taken). Suits (at u) u) l → All (NotAfter t) l
+  none-earlier : (t : OrderedEffect) (l : List OrderedEffect) → Suits (at t) t → All (λ (u : OrderedEffect). Suits (at u) u) l → All (NotAfter t) l
       → allOf (notEarlier (at t)) (map at l) ≡ true
   unfolding notEarlier
   none-earlier t [] s ss h = refl
@@ -97,8 +91,8 @@ module _ (fs : List Finished) where
       let z : at t .start ≤ at u .end = omega (arith, s .begun, ss .0 .within, h .0) in
       and-of (le-leb (at t .start) (at u .end) z) (none-earlier t l s (ss .1) (h .1))
 
-  passes : (p : ℕ) (l : List Taken) (d d′ : List Entry)
-      → All (λ (u : Taken). Suits (at u) u) l → Pairs NotAfter l → Replays l d d′ → replay p (map at l) (labelsOf d) ≡ Passed
+  passes : (p : ℕ) (l : List OrderedEffect) (d d′ : List Entry)
+      → All (λ (u : OrderedEffect). Suits (at u) u) l → Pairs NotAfter l → Replays l d d′ → replay p (map at l) (labelsOf d) ≡ Passed
   unfolding replay
   passes p [] d d′ s o r = refl
   passes p (t ∷ l) d d′ s o r =
@@ -123,9 +117,9 @@ opened-passes pooled q tasks slots tag e os done small =
     let rep = replayed (run o os) 1 start.nobody (record { before = tt; replays = refl }) in
     let ord = ordered cs (all-settled cs done (lin .calls)) in
     ap (verdict (finished cs)) (order-is cs)
-    ∙ rw (is-accepted (tidy .0) cs small done (tidy .1) (lin .calls), finished-length cs, is-rearranged (finished cs) (length cs) (takenOf cs) ord)
-    (ap (λ (x : List Finished). replay 1 x []) (map-map (numbered (finished cs)) (λ (t : Taken). t .number) (takenOf cs))
-    ∙ passes (finished cs) 1 (takenOf cs) [] (l .deque) (ord .suits) (ord .sorted) (rep .1 .replays))
+    ∙ rw (is-accepted (tidy .0) cs small done (tidy .1) (lin .calls), finished-length cs, is-rearranged (finished cs) (length cs) (orderedEffects cs) ord)
+    (ap (λ (x : List Finished). replay 1 x []) (map-map (numbered (finished cs)) (λ (t : OrderedEffect). t .number) (orderedEffects cs))
+    ∙ passes (finished cs) 1 (orderedEffects cs) [] (l .deque) (ord .suits) (ord .sorted) (rep .1 .replays))
 
 pub histories-pass : HistoriesPass
 histories-pass pooled = after-opening pooled Passes (opened-passes pooled)

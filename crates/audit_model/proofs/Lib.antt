@@ -1,6 +1,6 @@
 pub mod Lists
 pub mod VerdictLaws
-pub mod Taken
+pub mod OrderedEffects
 pub mod Order
 pub mod Replayed
 pub mod Events

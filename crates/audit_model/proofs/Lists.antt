@@ -1,9 +1,6 @@
 -- Tests of all elements and of all pairs of a list, as truth values and as facts.
-use mathlib.Core.Bool.{Bool, true}
-use mathlib.Core.List.{List, [], _∷_, _++_, map}
-use mathlib.Core.Path.{_≡_, refl}
-use Rattle.model.proofs.tests.Truth.{and-of}
-use Rattle.model.specs.Lists.{All}
+use mathlib.Core.{Bool.{Bool, true}, List.{List, [], _∷_, _++_, map}, Path.{_≡_, refl}}
+use Rattle.model.{proofs.tests.Truth.and-of, specs.Lists.All}
 use Rattle.audit_model.specs.Audit.{allOf, pairwise}
 
 -- A fact of each element and every later one.

@@ -1,96 +1,93 @@
 -- For every list of events: its effects, in the order of their places, are what the sequential deque served, with its replies.
-use mathlib.Core.Bool.{Bool, false, true, _&&_}
-use mathlib.Core.List.{List, [], _∷_, _++_, append-assoc}
+use mathlib.Core.{Bool.{Bool, false, true, _&&_}, List.{List, [], _∷_, _++_, append-assoc}}
 use mathlib.Core.Path.{_≡_, refl, sym, ap, _∙_, subst}
 use Prim.Native.Nat.{ℕ, suc, _<_, _≤_}
 use native.Mathlib.Omega.{arith}
 use lib.{Dec.eqb, ListN.length}
-use Rattle.model.specs.declared.{Answer.Answer, Entry.Entry, Op.Op, Outcome.Outcome}
-use Rattle.model.specs.declared.Op.the-variants.{Push, Pop, PushPooled, Step}
-use Rattle.model.specs.declared.Outcome.the-variants.{Refused, Moved}
-use Rattle.model.specs.Deque.{Served, saysNoSlot, serve, serveFor, servePop, servePush, takeFirst, seenFrom}
-use Rattle.model.specs.History.{LedgerCall, Effect, Ending, Event, Ledger}
-use Rattle.model.specs.History.{accept, attend, begins, continued, ended, isEffect, isOpen, lacksSlot, ledgerFrom, note, over, stepOf, toldEntry}
+use Rattle.model.specs.declared.{Answer.Answer, Entry.Entry, Op.{Op, the-variants.{Push, Pop, PushPooled, Step}}}
+use Rattle.model.specs.{declared.Outcome.{Outcome, the-variants.{Refused, Moved}}, Lists.All}
+use Rattle.model.specs.Deque.{Served, saysNoFreeSlot, serve, serveFor, servePop, servePush, takeFirst, seenFrom}
+use Rattle.model.specs.History.{LedgerCall, Effect, Ending, Event, Ledger, accept, attend, begins, continued, ended}
+use Rattle.model.specs.History.{isEffect, isOpen, lacksSlot, ledgerFrom, note, over, stepOf, toldEntry}
 use Rattle.model.proofs.tests.Truth.{by-test}
-use Rattle.model.specs.Lists.{All}
-use Rattle.audit_model.proofs.Taken.{Taken, put, putAll, taken, takenOf}
-use Rattle.audit_model.proofs.Lists.{all-append, all-map}
-use Rattle.audit_model.proofs.Order.{insert-all, insert-before, insert-last}
+use Rattle.audit_model.proofs.OrderedEffects.{OrderedEffect, put, putAll, orderedEffect, orderedEffects}
+use Rattle.audit_model.proofs.{Lists.{all-append, all-map}, Order.{insert-all, insert-before, insert-last}}
 
 -- An effect served from deque d: the call gets its reply, a push with its label in some slot.
-abbrev pub servedIn : ℕ → Taken → List Entry → Served
-servedIn slot t d = serveFor (saysNoSlot (t .reply)) (t .kind) (t .side) (record { slot = slot; label = t .entry .label }) d
+abbrev pub servedIn : ℕ → OrderedEffect → List Entry → Served
+servedIn slot t d = serveFor (saysNoFreeSlot (t .reply)) (t .kind) (t .side) (record { slot = slot; label = t .entry .label }) d
 
 -- Served one after another from deque d, these effects have these replies and leave deque d′.
-abbrev pub Replays : List Taken → List Entry → List Entry → Type 0
+abbrev pub Replays : List OrderedEffect → List Entry → List Entry → Type 0
 Replays [] d d′ = d ≡ d′
 Replays (t ∷ l) d d′ = (slot : ℕ) × ((servedIn slot t d .reply ≡ t .reply) × Replays l (servedIn slot t d .deque) d′)
 
-pub replays-append : (l m : List Taken) (a b c : List Entry) → Replays l a b → Replays m b c → Replays (l ++ m) a c
+pub replays-append : (l m : List OrderedEffect) (a b c : List Entry) → Replays l a b → Replays m b c → Replays (l ++ m) a c
 replays-append [] m a b c h k = subst (λ (x : List Entry). Replays m x c) (sym h) k
 replays-append (t ∷ l) m a b c h k = (h .0, (h .1 .0, replays-append l m _ b c (h .1 .1) k))
 
 -- The sequential deque's own replies are not *no slot*; so its reply tells whether it served the call.
-never-no-slot : (kind side : ℕ) (e : Entry) (d : List Entry) → saysNoSlot (serve kind side e d .reply) ≡ false
+never-no-free-slot : (kind side : ℕ) (e : Entry) (d : List Entry) → saysNoFreeSlot (serve kind side e d .reply) ≡ false
 unfolding serve servePush servePop
-never-no-slot kind side e d = by-test (λ (s : Served). saysNoSlot (s .reply) ≡ false) (eqb kind 0) (λ _. refl) (λ _. go (seenFrom side d))
+never-no-free-slot kind side e d = by-test (λ (s : Served). saysNoFreeSlot (s .reply) ≡ false) (eqb kind 0) (λ _. refl) (λ _. go (seenFrom side d))
   where
-    go : (l : List Entry) → saysNoSlot (takeFirst side l .reply) ≡ false
+    go : (l : List Entry) → saysNoFreeSlot (takeFirst side l .reply) ≡ false
     go [] = refl
     go (x ∷ l) = refl
 
-reply-tells : (lacks : Bool) (kind side : ℕ) (e : Entry) (d : List Entry)
-    → let s = serveFor lacks kind side e d in serveFor (saysNoSlot (s .reply)) kind side e d ≡ s
+reply-says : (lacks : Bool) (kind side : ℕ) (e : Entry) (d : List Entry)
+    → let s = serveFor lacks kind side e d in serveFor (saysNoFreeSlot (s .reply)) kind side e d ≡ s
 unfolding serveFor
-reply-tells lacks kind side e d = by-test (λ (s : Served). serveFor (saysNoSlot (s .reply)) kind side e d ≡ s) lacks
+reply-says lacks kind side e d = by-test (λ (s : Served). serveFor (saysNoFreeSlot (s .reply)) kind side e d ≡ s) lacks
     (λ _. refl)
-    (λ _. rw (never-no-slot kind side e d))
+    (λ _. rw (never-no-free-slot kind side e d))
 
 -- Effects before position n.
 abbrev pub EffectsBefore : ℕ → LedgerCall → Type 0
 EffectsBefore n c = All (λ (e : Effect). e .at < n) (c .effects)
 
-abbrev AtOrBefore : ℕ → Taken → Type 0
+abbrev AtOrBefore : ℕ → OrderedEffect → Type 0
 AtOrBefore n t = t .at ≤ n
 
-abbrev Now : ℕ → Taken → Type 0
+abbrev Now : ℕ → OrderedEffect → Type 0
 Now n t = t .at ≡ n
 
 -- Earlier effects come before the new ones.
-insert-earlier : (n : ℕ) (f : Effect → Taken) → ((e : Effect) → f e .at ≡ e .at)
-    → (es : List Effect) (l m : List Taken) → All (λ (e : Effect). e .at < n) es → All (Now n) m
+insert-earlier : (n : ℕ) (f : Effect → OrderedEffect) → ((e : Effect) → f e .at ≡ e .at)
+    → (es : List Effect) (l m : List OrderedEffect) → All (λ (e : Effect). e .at < n) es → All (Now n) m
     → putAll f es (l ++ m) ≡ putAll f es l ++ m
 insert-earlier n f p [] l m h z = refl
 insert-earlier n f p (e ∷ es) l m h z =
     ap (put (f e)) (insert-earlier n f p es l m (h .1) z)
-    ∙ insert-before (f e) (putAll f es l) m (all-map (λ (u : Taken) w. omega (arith, h .0, p e)) m z)
+    ∙ insert-before (f e) (putAll f es l) m (all-map (λ (u : OrderedEffect) w. omega (arith, h .0, p e)) m z)
 
-all-inserted : (n : ℕ) (f : Effect → Taken) → ((e : Effect) → f e .at ≡ e .at)
-    → (es : List Effect) (l : List Taken) → All (λ (e : Effect). e .at < n) es
+all-inserted : (n : ℕ) (f : Effect → OrderedEffect) → ((e : Effect) → f e .at ≡ e .at)
+    → (es : List Effect) (l : List OrderedEffect) → All (λ (e : Effect). e .at < n) es
     → All (AtOrBefore n) l → All (AtOrBefore n) (putAll f es l)
 all-inserted n f p [] l h z = z
 all-inserted n f p (e ∷ es) l h z = insert-all (AtOrBefore n) (f e) (putAll f es l) (omega (arith, h .0, p e)) (all-inserted n f p es l (h .1) z)
 
-pub effects-before : (n : ℕ) (cs : List LedgerCall) → All (EffectsBefore n) cs → All (AtOrBefore n) (takenOf cs)
+pub effects-before : (n : ℕ) (cs : List LedgerCall) → All (EffectsBefore n) cs → All (AtOrBefore n) (orderedEffects cs)
 effects-before n [] h = tt
 effects-before n (c ∷ cs) h =
-    all-inserted n (taken (length (c ∷ cs)) (c .kind) (c .side) (c .entry)) (λ e. refl) (c .effects) (takenOf cs)
+    all-inserted n (orderedEffect (length (c ∷ cs)) (c .kind) (c .side) (c .entry)) (λ e. refl) (c .effects) (orderedEffects cs)
     (h .0) (effects-before n cs (h .1))
 
 module _ (n : ℕ) (ev : Event) (a : Answer) (d : List Entry) where
   -- Calls cs attended to are ledger l: the new effects lie behind the others.
   pub record Adds (cs : List LedgerCall) (l : Ledger) : Type 0 where
-    pub new : List Taken
+    pub new : List OrderedEffect
     pub count : length (l .calls) ≡ length cs
-    pub effects : takenOf (l .calls) ≡ takenOf cs ++ new
+    pub effects : orderedEffects (l .calls) ≡ orderedEffects cs ++ new
     pub here : All (Now n) new
     pub replays : Replays new d (l .deque)
 
   -- A call before others that were attended to keeps its effects where they were.
   keeps : (c : LedgerCall) (cs : List LedgerCall) (l : Ledger) → EffectsBefore n c → (g : Adds cs l)
-      → putAll (taken (suc (length (l .calls))) (c .kind) (c .side) (c .entry)) (c .effects) (takenOf (l .calls)) ≡ takenOf (c ∷ cs) ++ g .new
-  keeps c cs l h g = (λ i. putAll (taken (suc (g .count i)) (c .kind) (c .side) (c .entry)) (c .effects) (g .effects i))
-      ∙ insert-earlier n (taken (length (c ∷ cs)) (c .kind) (c .side) (c .entry)) (λ e. refl) (c .effects) (takenOf cs) (g .new) h (g .here)
+      → putAll (orderedEffect (suc (length (l .calls))) (c .kind) (c .side) (c .entry)) (c .effects) (orderedEffects (l .calls)) ≡ orderedEffects
+      (c ∷ cs) ++ g .new
+  keeps c cs l h g = (λ i. putAll (orderedEffect (suc (g .count i)) (c .kind) (c .side) (c .entry)) (c .effects) (g .effects i))
+      ∙ insert-earlier n (orderedEffect (length (c ∷ cs)) (c .kind) (c .side) (c .entry)) (λ e. refl) (c .effects) (orderedEffects cs) (g .new) h (g .here)
 
   skips : (c : LedgerCall) (e : Ending) (cs : List LedgerCall) (l : Ledger) → EffectsBefore n c → Adds cs l → Adds (c ∷ cs) (over (continued c
       (c .effects) e) l)
@@ -103,17 +100,17 @@ module _ (n : ℕ) (ev : Event) (a : Answer) (d : List Entry) where
   takes c cs l h hs g =
       let s = serveFor (lacksSlot c a) (c .kind) (c .side) (toldEntry c ev) (l .deque) in
       let e : Effect = record { at = n; reply = s .reply } in
-      let t = taken (length (c ∷ cs)) (c .kind) (c .side) (c .entry) e in
-      let same = reply-tells (lacksSlot c a) (c .kind) (c .side) (toldEntry c ev) (l .deque) in
+      let t = orderedEffect (length (c ∷ cs)) (c .kind) (c .side) (c .entry) e in
+      let same = reply-says (lacksSlot c a) (c .kind) (c .side) (toldEntry c ev) (l .deque) in
       record {
         new = g .new ++ (t ∷ []);
         count = ap suc (g .count);
         effects =
-            (λ i. put (taken (suc (g .count i)) (c .kind) (c .side) (c .entry) e) (keeps c cs l h g i))
-            ∙ insert-last t (takenOf (c ∷ cs) ++ g .new)
-            (all-append (AtOrBefore n) (takenOf (c ∷ cs)) (g .new)
-            (effects-before n (c ∷ cs) (h, hs)) (all-map (λ (u : Taken) w. omega arith) (g .new) (g .here)))
-            ∙ append-assoc (takenOf (c ∷ cs)) (g .new) (t ∷ []);
+            (λ i. put (orderedEffect (suc (g .count i)) (c .kind) (c .side) (c .entry) e) (keeps c cs l h g i))
+            ∙ insert-last t (orderedEffects (c ∷ cs) ++ g .new)
+            (all-append (AtOrBefore n) (orderedEffects (c ∷ cs)) (g .new)
+            (effects-before n (c ∷ cs) (h, hs)) (all-map (λ (u : OrderedEffect) w. omega arith) (g .new) (g .here)))
+            ∙ append-assoc (orderedEffects (c ∷ cs)) (g .new) (t ∷ []);
         here = all-append (Now n) (g .new) (t ∷ []) (g .here) (refl, tt);
         replays = replays-append (g .new) (t ∷ []) d (l .deque) (s .deque) (g .replays)
             (toldEntry c ev .slot, (ap (λ (s : Served). s .reply) same, ap (λ (s : Served). s .deque) same));
@@ -147,7 +144,7 @@ attend-all n ev a P Q f g k d (c ∷ cs) h =
 -- Before position n.
 pub record Replayed (n : ℕ) (l : Ledger) : Type 0 where
   pub before : All (EffectsBefore n) (l .calls)
-  pub replays : Replays (takenOf (l .calls)) [] (l .deque)
+  pub replays : Replays (orderedEffects (l .calls)) [] (l .deque)
 
 later : (n : ℕ) (c : LedgerCall) → EffectsBefore n c → EffectsBefore (suc n) c
 later n c h = all-map (λ (e : Effect) w. omega arith) (c .effects) h
@@ -165,8 +162,8 @@ accepted n ev Step a l g =
     record {
       before = attend-all n ev a (EffectsBefore n) (EffectsBefore (suc n)) (later n) (later n) (λ c r h. (omega arith, later n c h))
           (l .deque) (l .calls) (g .before);
-      replays = subst (λ (k : List Taken). Replays k [] (attend n ev a (l .deque) (l .calls) .deque)) (sym (z .effects))
-          (replays-append (takenOf (l .calls)) (z .new) [] (l .deque) _ (g .replays) (z .replays));
+      replays = subst (λ (k : List OrderedEffect). Replays k [] (attend n ev a (l .deque) (l .calls) .deque)) (sym (z .effects))
+          (replays-append (orderedEffects (l .calls)) (z .new) [] (l .deque) _ (g .replays) (z .replays));
     }
 
 noted : (n : ℕ) (ev : Event) (o : Outcome) (l : Ledger) → Replayed n l → Replayed (suc n) (note n ev o l)

@@ -1,17 +1,12 @@
 -- A history written as words is read back.
-use mathlib.Core.List.{List, [], _∷_}
-use mathlib.Core.Path.{_≡_, refl, ap, _∙_}
+use mathlib.Core.{List.{List, [], _∷_}, Path.{_≡_, refl, ap, _∙_}}
 use Prim.Native.Nat.{ℕ, zero, suc, _+_, _*_, _/_, _≤_}
 use native.Mathlib.Omega.{arith}
 use lib.ListN.{length, getD}
-use Rattle.audit_model.specs.declared.Finished.{Finished}
-use Rattle.model.specs.History.{AfterOpening, LedgerCall, Request, ledger, run}
-use Rattle.model.specs.{Calls.openAs, Tables.Queue, Lists.All}
-use Rattle.audit_model.specs.declared.Verdict.the-variants.{Passed}
-use Rattle.audit_model.specs.Audit.{verdict}
-use Rattle.audit_model.specs.Written.{IsAnswered, effectOrder, finished}
-use Rattle.audit_model.specs.Laws.{ReadBack}
+use Rattle.audit_model.specs.{declared.{Finished.Finished, Verdict.the-variants.Passed}, Audit.verdict}
+use Rattle.audit_model.specs.{Written.{IsAnswered, effectOrder, finished}, Laws.ReadBack}
 use Rattle.audit_model.specs.LentHistory.{callAt, callsFrom, callsIn, wordsOf}
+use Rattle.model.specs.{History.{AfterOpening, LedgerCall, Request, ledger, run}, Calls.openAs, Tables.Queue, Lists.All}
 use Rattle.audit_model.proofs.HistoriesPass.{histories-pass}
 
 words-length : (cs : List Finished) → length (wordsOf cs) ≡ 7 * length cs

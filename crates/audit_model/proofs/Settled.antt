@@ -1,19 +1,14 @@
 -- A call that took effect once, and how it is written down.
-use mathlib.Core.{Bool.true, Logic._≢_}
-use mathlib.Core.List.{[], _∷_}
-use mathlib.Core.Path.{_≡_, refl, sym, subst, _∙_}
+use mathlib.Core.{Bool.true, Logic._≢_, List.{[], _∷_}, Path.{_≡_, refl, sym, subst, _∙_}}
 use Prim.Native.Nat.{ℕ, _<_, _≤_}
 use native.Mathlib.Omega.{arith}
 use borrow.Author.Tests.{le-leb, lt-ltb, ne-eqb}
-use Rattle.model.specs.declared.Answer.{Answer}
-use Rattle.model.specs.declared.Answer.the-variants.{Running, Pushed, Empty, Popped, NoFreeSlot}
-use Rattle.model.specs.declared.Outcome.the-variants.{Moved}
-use Rattle.model.specs.Calls.{replyOf}
+use Rattle.model.specs.declared.Answer.{Answer, the-variants.{Running, Pushed, Empty, Popped, NoFreeSlot}}
+use Rattle.model.specs.{declared.Outcome.the-variants.Moved, Calls.replyOf}
 use Rattle.model.specs.History.{LedgerCall, Effect, Ending, Lawful, answered, pending}
-use Rattle.audit_model.specs.declared.Finished.{Finished}
-use Rattle.audit_model.specs.Audit.{apart, wellFormed}
+use Rattle.audit_model.specs.{declared.Finished.Finished, Audit.{apart, wellFormed}}
 use Rattle.audit_model.specs.Written.{IsAnswered, IsTold, written}
-use Rattle.audit_model.proofs.Taken.{Taken, taken}
+use Rattle.audit_model.proofs.OrderedEffects.{OrderedEffect, orderedEffect}
 use Rattle.audit_model.proofs.Events.{Apart, NotAt, NotTogether, Past}
 
 -- What is written of a reply to a push of label x, or to a pop: its number, and the label pushed or popped.
@@ -25,7 +20,7 @@ SuitsReply f x (Popped e) = (f .answer ≡ 4) × (f .label ≡ e .label)
 SuitsReply f x NoFreeSlot = ⊥
 
 -- A written call and its effect.
-pub record Suits (f : Finished) (t : Taken) : Type 0 where
+pub record Suits (f : Finished) (t : OrderedEffect) : Type 0 where
   pub kind : f .kind ≡ t .kind
   pub side : f .side ≡ t .side
   pub begun : f .start < t .at
@@ -35,7 +30,7 @@ pub record Suits (f : Finished) (t : Taken) : Type 0 where
 pub record Settled (c : LedgerCall) (f : Finished) : Type 0 where
   pub effect : Effect
   pub only : c .effects ≡ effect ∷ []
-  pub suits : (k : ℕ) → Suits f (taken k (c .kind) (c .side) (c .entry) effect)
+  pub suits : (k : ℕ) → Suits f (orderedEffect k (c .kind) (c .side) (c .entry) effect)
 
 suits-reply : (c : LedgerCall) (n : ℕ) (a : Answer) → IsTold a → SuitsReply (written c (answered n a)) (c .entry .label) a
 suits-reply c n (Running p) i = absurd i

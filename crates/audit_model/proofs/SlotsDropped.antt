@@ -1,17 +1,14 @@
 -- A queue of labels replies as the sequential deque does, the slots left out.
-use mathlib.Core.Bool.{Bool, true, false, cond}
-use mathlib.Core.List.{List, [], _∷_, _++_, map, reverse, reverse-cons}
+use mathlib.Core.{Bool.{Bool, true, false, cond}, List.{List, [], _∷_, _++_, map, reverse, reverse-cons}}
 use mathlib.Core.Path.{_≡_, refl, sym, ap, _∙_, subst}
 use Prim.Native.Nat.{ℕ}
 use lib.Dec.{eqb}
 use borrow.Author.Tests.{eq-eqb}
-use Rattle.model.specs.declared.{Answer.Answer, Entry.Entry}
-use Rattle.model.specs.declared.Answer.the-variants.{Running, Pushed, Empty, Popped, NoFreeSlot}
-use Rattle.model.specs.Deque.{Served, saysNoSlot, seenFrom, serve, serveFor, servePop, servePush, takeFirst}
-use Rattle.audit_model.specs.declared.Finished.{Finished}
-use Rattle.audit_model.specs.Audit.{Given, agrees, gives, serveLabel, takeLabel}
-use Rattle.audit_model.proofs.{Taken.Taken, Replayed.servedIn}
-use Rattle.audit_model.proofs.Settled.{Suits, SuitsReply}
+use Rattle.model.specs.declared.Answer.{Answer, the-variants.{Running, Pushed, Empty, Popped, NoFreeSlot}}
+use Rattle.model.specs.declared.Entry.{Entry}
+use Rattle.model.specs.Deque.{Served, saysNoFreeSlot, seenFrom, serve, serveFor, servePop, servePush, takeFirst}
+use Rattle.audit_model.specs.{declared.Finished.Finished, Audit.{Given, agrees, gives, serveLabel, takeLabel}}
+use Rattle.audit_model.proofs.{OrderedEffects.OrderedEffect, Replayed.servedIn, Settled.{Suits, SuitsReply}}
 
 abbrev pub labelsOf : List Entry → List ℕ
 labelsOf l = map (λ (e : Entry). e .label) l
@@ -55,14 +52,14 @@ pop-gives f side x [] s = record { queue = refl; agrees = rw s }
 pop-gives f side x (e ∷ m) s = record { queue = seen-labels side m; agrees = rw (s .0, eq-eqb (f .label) (e .label) (s .1)) }
 
 -- What is written of a reply is not *no slot*: the deque served the call.
-is-served : (f : Finished) (x : ℕ) (a : Answer) → SuitsReply f x a → saysNoSlot a ≡ false
+is-served : (f : Finished) (x : ℕ) (a : Answer) → SuitsReply f x a → saysNoFreeSlot a ≡ false
 is-served f x (Running p) s = absurd s
 is-served f x Pushed s = refl
 is-served f x Empty s = refl
 is-served f x (Popped e) s = refl
 is-served f x NoFreeSlot s = absurd s
 
-pub label-gives : (f : Finished) (slot : ℕ) (t : Taken) (d : List Entry) → Suits f t → servedIn slot t d .reply ≡ t .reply
+pub label-gives : (f : Finished) (slot : ℕ) (t : OrderedEffect) (d : List Entry) → Suits f t → servedIn slot t d .reply ≡ t .reply
     → Gives f (servedIn slot t d) (gives f (labelsOf d))
 unfolding serveFor serve serveLabel servePop servePush
 label-gives f slot t d s e =
@@ -73,7 +70,7 @@ label-gives f slot t d s e =
     entry : Entry
     entry = record { slot = slot; label = t .entry .label }
 
-    served : saysNoSlot (t .reply) ≡ false
+    served : saysNoFreeSlot (t .reply) ≡ false
     served = is-served f (t .entry .label) (t .reply) (s .reply)
 
     fits : SuitsReply f (t .entry .label) (servedIn slot t d .reply)

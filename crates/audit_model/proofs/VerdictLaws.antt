@@ -1,19 +1,16 @@
 -- Every verdict means what document 02 says of it, and what means a verdict gets it.
-use mathlib.Core.Bool.{Bool, true, false, _&&_}
-use mathlib.Core.List.{List, [], _∷_, _++_}
-use mathlib.Core.Path.{_≡_, refl, sym, ap, _∙_, subst}
+use mathlib.Core.{Bool.{Bool, true, false, _&&_}, List.{List, [], _∷_, _++_}, Path.{_≡_, refl, sym, ap, _∙_, subst}}
 use Prim.Native.Nat.{ℕ, zero, suc, _+_, _≤_}
 use native.Mathlib.Omega.{arith}
-use lib.Dec.{eqb, leb}
-use lib.ListN.{length}
+use lib.{Dec.{eqb, leb}, ListN.length}
 use borrow.Author.Tests.{eqb-false, eqb-true, leb-true, not-true}
 use Rattle.model.specs.{Sound.from1, Lists.All}
-use Rattle.model.proofs.lists.{Deque.Distinct, Pigeonhole.pigeon}
-use Rattle.model.proofs.tests.Truth.{and-of, and-true, by-test}
-use Rattle.audit_model.specs.declared.{Finished.Finished, Verdict.Verdict}
-use Rattle.audit_model.specs.declared.Verdict.the-variants.{Refused, Failed, Passed}
-use Rattle.audit_model.specs.Audit.{accepted, allOf, differ, gives, inOrder, notEarlier, pairwise, rearranges, replay, verdict}
-use Rattle.audit_model.specs.Laws.{AllRight, Answered, EveryCallNamed, FirstWrong, Meaning, MeaningIsTold, VerdictMeans, answers, queueAfter, right}
+use Rattle.model.proofs.{lists.{Deque.Distinct, Pigeonhole.pigeon}, tests.Truth.{and-of, and-true, by-test}}
+use Rattle.audit_model.specs.{declared.Finished.Finished, Audit.{replay, verdict}}
+use Rattle.audit_model.specs.declared.Verdict.{Verdict, the-variants.{Refused, Failed, Passed}}
+use Rattle.audit_model.specs.Audit.{accepted, allOf, differ, gives, inOrder, notEarlier, pairwise, rearranges}
+use Rattle.audit_model.specs.Laws.{AllRight, Answered, EveryCallListed, FirstWrong, Meaning, MeaningIsTold, right}
+use Rattle.audit_model.specs.Laws.{VerdictMeans, answers, queueAfter}
 
 -- The calls are all right, or one is the first that is not; b positions were passed.
 pub data Told (b : ℕ) (cs : List Finished) (q : List ℕ) : Verdict → Type 0 where
@@ -111,9 +108,9 @@ not-zero n x t z = let y = leb-true 1 x (and-true (leb 1 x) (leb x n) t .0) in o
 at-most : (n x : ℕ) → from1 n x ≡ true → x ≤ n
 at-most n x t = leb-true x n (and-true (leb 1 x) (leb x n) t .1)
 
-pub every-call-named : EveryCallNamed
+pub every-call-listed : EveryCallListed
 unfolding rearranges
-every-call-named n ks k r low high = go (allOf (differ k) ks) refl
+every-call-listed n ks k r low high = go (allOf (differ k) ks) refl
   where
     parts : (eqb (length ks) n && allOf (from1 n) ks ≡ true) × (pairwise differ ks ≡ true)
     parts = and-true (eqb (length ks) n && allOf (from1 n) ks) (pairwise differ ks) r

@@ -1,21 +1,19 @@
 -- A worked history: a label pushed, then two pops of it at once; the later pop gets it. And one of a pooled queue with a single slot.
-use mathlib.Core.Path.{_≡_, refl}
-use mathlib.Core.List.{List, [], _∷_, _++_, map}
+use mathlib.Core.{Path.{_≡_, refl}, List.{List, [], _∷_, _++_, map}}
 use Prim.Native.Nat.{ℕ, zero, suc, _+_, _*_}
 use lib.ListN.{replicate}
-use Rattle.model.specs.declared.Op.the-variants.{Push, Pop, PushPooled, Step}
-use Rattle.model.specs.Tables.{Queue, unused, tablesOf, unopened}
+use Rattle.model.specs.{declared.Op.the-variants.{Push, Pop, PushPooled, Step}, Places.{at12, at13, at14, move}}
+use Rattle.model.specs.{Tables.{Queue, unused, tablesOf, unopened}, Calls.{actOn, act}}
 use Rattle.model.specs.Sound.{anchorSound, linkSound, controlSound, recordSound, rowsFit}
-use Rattle.model.specs.Places.{sideOf, row, linkSide, reading, at1, at2, at3, new4, at4, at5, at6, at7, at9, at10, at11, at12, at13, at14, move}
+use Rattle.model.specs.Places.{sideOf, row, linkSide, reading, at1, at2, at3, new4, at4, at5, at6, at7, at9, at10, at11}
 use Rattle.model.specs.Route.{pushRoute, popRoute, route, onward, answer, goes, counted}
 use Rattle.model.specs.Refusals.{openRefusal, stepSound, stepRefusal, startRefusal}
-use Rattle.model.specs.Calls.{opened, openAs, openPooled, openQueue, pushStart, putStart, popStart, finish, step, actOn, act}
+use Rattle.model.specs.Calls.{opened, openAs, openPooled, openQueue, pushStart, pushPooledStart, popStart, finish, step}
 use Rattle.model.specs.Deque.{serve, serveFor, servePop, servePush}
 use Rattle.model.specs.History.{LedgerCall, Request, accept, attend, isEffect, ledger, ledgerFrom, note, run, stepOf}
-use Rattle.audit_model.specs.declared.{Finished.Finished, VerdictReply.VerdictReply}
-use Rattle.audit_model.specs.declared.Verdict.the-variants.{Failed, Passed, Refused}
-use Rattle.audit_model.specs.Audit.{accepted, agrees, apart, notEarlier, rearranges, replay, serveLabel, verdict, wellFormed}
-use Rattle.audit_model.specs.LentHistory.{verdictReply}
+use Rattle.audit_model.specs.{declared.{Finished.Finished, VerdictReply.VerdictReply}, Audit.wellFormed}
+use Rattle.audit_model.specs.{declared.Verdict.the-variants.{Failed, Passed, Refused}, LentHistory.verdictReply}
+use Rattle.audit_model.specs.Audit.{accepted, agrees, apart, notEarlier, rearranges, replay, serveLabel, verdict}
 use Rattle.audit_model.specs.Written.{effectOrder, finished, insert}
 
 abbrev zeros : Queue
@@ -50,8 +48,8 @@ pooledCalls = ledger (run (openPooled zeros 2 1 0 .queue) two) .calls
 abbrev drawn : Finished
 drawn = record { task = 0; kind = 0; side = 1; label = 700; answer = 2; start = 1; end = 6 }
 
-abbrev noSlot : Finished
-noSlot = record { task = 1; kind = 0; side = 0; label = 0; answer = 5; start = 7; end = 8 }
+abbrev noFreeSlot : Finished
+noFreeSlot = record { task = 1; kind = 0; side = 0; label = 0; answer = 5; start = 7; end = 8 }
 
 abbrev push : Finished
 push = record { task = 0; kind = 0; side = 1; label = 700; answer = 2; start = 1; end = 3 }
@@ -97,13 +95,13 @@ pub record Table : Type 0 where
   pub as-many : verdict (pushes 64) [] ≡ Failed 0
   pub too-many : verdict (pushes 65) [] ≡ Refused 40
   -- a push that named no slot is a push of its label; *no slot* is an answer of its own, which no history knows
-  pub pooled-so : finished pooledCalls ≡ drawn ∷ noSlot ∷ []
-  pub no-slot : verdict (drawn ∷ noSlot ∷ []) (1 ∷ 2 ∷ []) ≡ Refused 40
+  pub pooled-so : finished pooledCalls ≡ drawn ∷ noFreeSlot ∷ []
+  pub no-free-slot : verdict (drawn ∷ noFreeSlot ∷ []) (1 ∷ 2 ∷ []) ≡ Refused 40
   -- the numbers of each verdict
   pub numbers : map verdictReply (Passed ∷ Failed 0 ∷ Failed 3 ∷ Refused 40 ∷ []) ≡ told 0 0 ∷ told 1 0 ∷ told 1 3 ∷ told 40 0 ∷ []
 
 pub worked : Table
-unfolding openAs opened openRefusal run act actOn pushStart putStart popStart step finish startRefusal stepRefusal stepSound
+unfolding openAs opened openRefusal run act actOn pushStart pushPooledStart popStart step finish startRefusal stepRefusal stepSound
     move at1 at2 at3 new4 at4 at5 at6 at7 at9 at10 at11 at12 at13 at14 reading sideOf row linkSide anchorSound linkSound controlSound recordSound rowsFit
     pushRoute popRoute route onward answer goes counted ledgerFrom note accept attend stepOf isEffect serveFor serve servePush servePop
     insert verdict accepted wellFormed apart rearranges replay serveLabel agrees notEarlier
@@ -123,6 +121,6 @@ worked = record {
   as-many = refl;
   too-many = refl;
   pooled-so = refl;
-  no-slot = refl;
+  no-free-slot = refl;
   numbers = refl;
 }

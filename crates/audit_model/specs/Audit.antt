@@ -1,12 +1,10 @@
 -- The verdict on a history of finished calls and its claimed order of effects. (Document 02: #103.)
-use mathlib.Core.Bool.{Bool, true, _&&_, _||_, not, cond}
-use mathlib.Core.List.{List, [], _∷_, map}
+use mathlib.Core.{Bool.{Bool, true, _&&_, _||_, not, cond}, List.{List, [], _∷_, map}}
 use Prim.Native.Nat.{ℕ, suc}
-use lib.Dec.{eqb, leb, ltb}
-use lib.ListN.{length, getD}
+use lib.{Dec.{eqb, leb, ltb}, ListN.{length, getD}}
 use Rattle.model.specs.{Deque.seenFrom, Sound.from1}
-use Rattle.audit_model.specs.declared.{Finished.Finished, Verdict.Verdict}
-use Rattle.audit_model.specs.declared.Verdict.the-variants.{Refused, Failed, Passed}
+use Rattle.audit_model.specs.declared.Finished.{Finished}
+use Rattle.audit_model.specs.declared.Verdict.{Verdict, the-variants.{Refused, Failed, Passed}}
 
 -- Each element passes a test; each passes it against every later one.
 abbrev pub allOf : {A : Type 0} → (A → Bool) → List A → Bool

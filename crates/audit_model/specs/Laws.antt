@@ -1,12 +1,10 @@
 -- What a verdict says, in the words of document 02, #103; the laws are proved in proofs/VerdictLaws.antt, the last one in proofs/RoundTrip.antt.
-use mathlib.Core.Bool.{Bool, true, false, _&&_}
-use mathlib.Core.List.{List, [], _∷_, _++_}
-use mathlib.Core.Path.{_≡_}
+use mathlib.Core.{Bool.{Bool, true, false, _&&_}, List.{List, [], _∷_, _++_}, Path._≡_}
 use Prim.Native.Nat.{ℕ, zero, suc, _≤_}
 use lib.ListN.{length}
-use Rattle.audit_model.specs.declared.{Finished.Finished, Verdict.Verdict}
-use Rattle.audit_model.specs.declared.Verdict.the-variants.{Refused, Failed, Passed}
-use Rattle.audit_model.specs.Audit.{accepted, agrees, allOf, differ, gives, inOrder, notEarlier, pairwise, rearranges, verdict}
+use Rattle.audit_model.specs.{declared.Finished.Finished, Audit.{rearranges, verdict}}
+use Rattle.audit_model.specs.declared.Verdict.{Verdict, the-variants.{Refused, Failed, Passed}}
+use Rattle.audit_model.specs.Audit.{accepted, agrees, allOf, differ, gives, inOrder, notEarlier, pairwise}
 use Rattle.audit_model.specs.LentHistory.{callsIn, wordsOf}
 
 -- Served from queue q, the call gets its answer.
@@ -66,8 +64,8 @@ abbrev pub MeaningIsTold : Type 0
 MeaningIsTold = (cs : List Finished) (ks : List ℕ) (v : Verdict) → Meaning cs ks v → verdict cs ks ≡ v
 
 -- A rearrangement leaves no call out: no number of a call differs from all of the order.
-abbrev pub EveryCallNamed : Type 0
-EveryCallNamed = (n : ℕ) (ks : List ℕ) (k : ℕ) → rearranges n ks ≡ true → 1 ≤ k → k ≤ n → allOf (differ k) ks ≡ false
+abbrev pub EveryCallListed : Type 0
+EveryCallListed = (n : ℕ) (ks : List ℕ) (k : ℕ) → rearranges n ks ≡ true → 1 ≤ k → k ≤ n → allOf (differ k) ks ≡ false
 
 -- A history written as words, seven a call, is read back as it was.
 abbrev pub ReadBack : Type 0

@@ -2,8 +2,8 @@
 use mathlib.Core.List.{List, [], _∷_}
 use Prim.Native.Nat.{ℕ, zero, suc, _+_, _*_, _/_}
 use lib.ListN.{length, getD}
-use Rattle.audit_model.specs.declared.{Finished.Finished, Verdict.Verdict, VerdictReply.VerdictReply}
-use Rattle.audit_model.specs.declared.Verdict.the-variants.{Refused, Failed, Passed}
+use Rattle.audit_model.specs.declared.{Finished.Finished, VerdictReply.VerdictReply}
+use Rattle.audit_model.specs.declared.Verdict.{Verdict, the-variants.{Refused, Failed, Passed}}
 
 abbrev pub callAt : List ℕ → ℕ → Finished
 callAt ws i = record {

@@ -1,16 +1,11 @@
 -- A list of demand 3 written as a history: its places as events, its effects as the order. (Document 02: #103.)
-use mathlib.Core.{Path._≡_, Bool.cond}
-use mathlib.Core.List.{List, [], _∷_, map, reverse}
+use mathlib.Core.{Path._≡_, Bool.cond, List.{List, [], _∷_, map, reverse}}
 use Prim.Native.Nat.{ℕ, _≤_}
 use lib.{Dec.ltb, ListN.length}
-use Rattle.model.specs.declared.{Answer.Answer, Entry.Entry}
-use Rattle.model.specs.declared.Answer.the-variants.{Running, Pushed, Empty, Popped, NoFreeSlot}
-use Rattle.model.specs.declared.Outcome.the-variants.{Moved}
-use Rattle.model.specs.{Calls.replyOf, Tables.Queue, Lists.All}
+use Rattle.model.specs.{declared.Answer.{Answer, the-variants.{Running, Pushed, Empty, Popped, NoFreeSlot}}, Lists.All}
+use Rattle.model.specs.{declared.{Entry.Entry, Outcome.the-variants.Moved}, Calls.replyOf, Tables.Queue}
 use Rattle.model.specs.History.{AfterOpening, LedgerCall, Effect, Ending, Request, answered, ledger, pending, run}
-use Rattle.audit_model.specs.declared.Finished.{Finished}
-use Rattle.audit_model.specs.declared.Verdict.the-variants.{Passed}
-use Rattle.audit_model.specs.Audit.{nobody, verdict}
+use Rattle.audit_model.specs.{declared.{Finished.Finished, Verdict.the-variants.Passed}, Audit.{nobody, verdict}}
 
 -- A push is told with the label that it pushed, a pop with the one that it popped.
 abbrev pub labelTold : Entry → Answer → ℕ

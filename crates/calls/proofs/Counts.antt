@@ -1,14 +1,11 @@
 -- What the report counts is bounded.
-use mathlib.Core.Path.{_≡_, refl}
-use mathlib.Core.Bool.{Bool, true, false, _&&_, cond}
+use mathlib.Core.{Path.{_≡_, refl}, Bool.{Bool, true, false, _&&_, cond}}
 use Prim.Native.Nat.{ℕ, zero, suc, _≤_}
 use native.Mathlib.Omega.{arith}
 use lib.Dec.{leb}
 use borrow.Author.Tests.{leb-true}
-use Rattle.model.specs.declared.Control.{Control}
+use Rattle.model.{specs.{declared.Control.Control, Lists.count}, proofs.tests.Truth.and-true}
 use Rattle.calls.specs.Telling.{countable}
-use Rattle.model.proofs.tests.Truth.{and-true}
-use Rattle.model.specs.Lists.{count}
 
 one-at-most : (b : Bool) → cond b 1 0 ≤ 1
 one-at-most true = omega arith

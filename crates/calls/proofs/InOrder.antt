@@ -1,19 +1,13 @@
 -- Tests made one after the other give the number of the first rule that applies: of an opening, of a start.
-use mathlib.Core.Path.{_≡_, refl, sym, ap, _∙_}
-use mathlib.Core.Logic.{_≢_}
-use mathlib.Core.Bool.{Bool, true, false, _&&_, not, cond}
+use mathlib.Core.{Path.{_≡_, refl, sym, ap, _∙_}, Logic._≢_, Bool.{Bool, true, false, _&&_, not, cond}}
 use mathlib.Core.List.{List, [], _∷_}
 use Prim.Native.Nat.{ℕ, _≤_}
 use lib.Dec.{eqb}
 use borrow.Author.Tests.{eq-eqb, ne-eqb, le-leb, not-true, not-false}
-use Rattle.model.specs.declared.Control.{Control}
-use Rattle.model.specs.declared.Call.{Call}
-use Rattle.model.specs.declared.Asked.{Asked}
-use Rattle.model.specs.Tables.{isPooled}
-use Rattle.model.specs.Sound.{recordSound}
-use Rattle.model.specs.Refusals.{Rule, rule, Lent, openingRules, admissionRules, admission, isBusy, late, askedRules, startRefusal}
-use Rattle.model.proofs.tests.Rules.{Tried, none, stop, pass, tried, first-passed, first-refused}
-use Rattle.model.proofs.tests.Truth.{and-true}
+use Rattle.model.specs.{declared.{Control.Control, Call.Call, Asked.Asked}, Tables.isPooled, Sound.recordSound}
+use Rattle.model.specs.Refusals.{Rule, rule, Lent, openingRules, admissionRules, admission, isBusy, late, askedRules}
+use Rattle.model.specs.Refusals.{startRefusal}
+use Rattle.model.proofs.tests.{Rules.{Tried, none, stop, pass, tried, first-passed, first-refused}, Truth.and-true}
 use Rattle.sound.proofs.Parts.{idle-sound}
 use Rattle.calls.specs.Opening.{openingRefusal}
 

@@ -1,24 +1,15 @@
 -- An opening's parts make the opening: an accepted one finds every table long enough, a refused one zeroes nothing.
-use mathlib.Core.Path.{_≡_, refl, sym, ap, _∙_}
-use mathlib.Core.Bool.{Bool, true, false, _&&_, _||_, not, cond}
-use mathlib.Core.List.{List}
+use mathlib.Core.{Path.{_≡_, refl, sym, ap, _∙_}, Bool.{Bool, true, false, _&&_, _||_, not, cond}, List.List}
 use Prim.Native.Nat.{ℕ, _+_, _/_, _≤_}
 use native.Mathlib.Omega.{arith}
-use lib.Dec.{eqb, ltb, leb}
-use lib.ListN.{length, length-replicate}
+use lib.{Dec.{eqb, ltb, leb}, ListN.{length, length-replicate}}
 use borrow.Author.Tests.{ltb-true, leb-true, eqb-true, le-leb, eq-eqb, ne-eqb, not-false}
-use Rattle.model.specs.declared.Record.{Record}
+use Rattle.model.specs.{declared.Record.Record, Tables.{Tables, Queue, tablesOf, openedControl, unused}, Sound.rowsFit}
+use Rattle.model.specs.{Refusals.{openingRules, openRefusal}, Calls.{stacked, opened, openAs, OpenDone}, Lists.zeroed}
+use Rattle.model.proofs.tests.{Rules.cleared, Truth.and-true}
 use Rattle.model.specs.declared.Opening.the-variants as opening
-use Rattle.model.specs.Tables.{Tables, Queue, tablesOf, openedControl, unused}
-use Rattle.model.specs.Sound.{rowsFit}
-use Rattle.model.specs.Refusals.{openingRules, openRefusal}
-use Rattle.model.specs.Calls.{stacked, opened, openAs, OpenDone}
-use Rattle.table.specs.Zeroing.{zeroing}
-use Rattle.table.specs.Stacking.{stacking}
+use Rattle.table.specs.{Zeroing.zeroing, Stacking.stacking}
 use Rattle.calls.specs.Opening.{openingRefusal, manyRecords, OpenedParts, openTables}
-use Rattle.model.proofs.tests.Rules.{cleared}
-use Rattle.model.proofs.tests.Truth.{and-true}
-use Rattle.model.specs.Lists.{zeroed}
 
 -- No rule applies: the slots are few, and the tables fit.
 pub record Accepted (slots : ℕ) (fits : Bool) : Type 0 where

@@ -1,25 +1,14 @@
 -- With tables of the lengths told, a start by these lengths is the document's.
-use mathlib.Core.Path.{_≡_, refl, ap, _∙_}
-use mathlib.Core.Bool.{Bool, true, false, cond}
-use mathlib.Core.List.{List, []}
+use mathlib.Core.{Path.{_≡_, refl, ap, _∙_}, Bool.{Bool, true, false, cond}, List.{List, []}}
 use Prim.Native.Nat.{ℕ}
 use lib.Dec.{eqb}
-use Rattle.model.specs.declared.Control.{Control}
-use Rattle.model.specs.declared.Call.{Call}
-use Rattle.model.specs.declared.Record.{Record}
-use Rattle.model.specs.declared.Asked.{Asked}
-use Rattle.model.specs.declared.Answer.the-variants.{Running}
-use Rattle.model.specs.declared.Outcome.the-variants.{Refused, Moved}
-use Rattle.model.specs.Calls as calls
-use Rattle.model.specs.Calls.{decide, pushStart, putStart, popStart}
-use Rattle.model.specs.Route.{counted}
+use Rattle.model.specs.declared.{Control.Control, Call.Call, Record.Record, Asked.Asked, Answer.the-variants.Running}
+use Rattle.model.specs.{declared.{Outcome.the-variants.{Refused, Moved}, Transition.Transition}, Route.counted}
+use Rattle.model.specs.{Calls.{decide, pushStart, pushPooledStart, popStart}, Sound.rowsFit}
 use Rattle.model.specs.Tables.{Tables, isPooled, tablesOf, withCall, withTaken, started, asking}
-use Rattle.model.specs.Sound.{rowsFit}
 use Rattle.model.specs.Refusals.{Lent, startRefusal, namedPush, pooledPush, nothingAsked}
-use Rattle.model.specs.declared.Transition.{Transition}
-use Rattle.sound.specs.declared.Lengths.{Lengths}
-use Rattle.sound.specs.Lengths.{Measures, amongMany}
-use Rattle.sound.proofs.Measured.{measured}
+use Rattle.model.specs.Calls as calls
+use Rattle.sound.{specs.{declared.Lengths.Lengths, Lengths.{Measures, amongMany}}, proofs.Measured.measured}
 use Rattle.table.specs.Lent.{withTables}
 use Rattle.calls.specs.Starting.{decided, refusedBy, touching, pushRefusedBy, storedUnless}
 
@@ -92,11 +81,11 @@ module _ (c : Control) (r : Call) (task side : ℕ) (t : Lengths) (lefts rights 
         ∙ ap (λ (why : ℕ). decide why entry (record { call = r; retries = k })
         (record { tables = entry; task = record { call = call; retries = k }; outcome = Moved (Running (call .place)) })) (by-tables a e)
 
-  pub put-begun : (label : ℕ) → Measures t entry
+  pub push-pooled-begun : (label : ℕ) → Measures t entry
       → m ≡ decided c r (refusedBy t c task r side (pooledPush (touching c [] []))) (asking side label)
-      → (k : ℕ) → withTables m lefts rights labels marks next k ≡ putStart entry lent-to (record { call = r; retries = k }) side label
-  unfolding putStart
-  put-begun label = begun (pooledPush entry) (asking side label)
+      → (k : ℕ) → withTables m lefts rights labels marks next k ≡ pushPooledStart entry lent-to (record { call = r; retries = k }) side label
+  unfolding pushPooledStart
+  push-pooled-begun label = begun (pooledPush entry) (asking side label)
 
   pub pop-begun : Measures t entry → m ≡ decided c r (refusedBy t c task r side nothingAsked) (started 1 side 0 0)
       → (k : ℕ) → withTables m lefts rights labels marks next k ≡ popStart entry lent-to (record { call = r; retries = k }) side

@@ -1,24 +1,15 @@
 -- The report is told or refused: by control or lengths before the walk, by the walk, or not at all.
-use mathlib.Core.Path.{_≡_, refl, sym, ap, _∙_}
-use mathlib.Core.Bool.{Bool, true, false, _&&_, not, cond}
-use mathlib.Core.List.{[], _∷_}
+use mathlib.Core.{Path.{_≡_, refl, sym, ap, _∙_}, Bool.{Bool, true, false, _&&_, not, cond}, List.{[], _∷_}}
 use Prim.Native.Nat.{ℕ}
-use lib.Dec.{eqb, leb}
-use lib.ListN.{length}
+use lib.{Dec.{eqb, leb}, ListN.length}
 use borrow.Author.Tests.{eqb-true, ne-eqb, not-false}
-use Rattle.model.specs.declared.Control.{Control}
-use Rattle.model.specs.declared.Reported.{Reported}
-use Rattle.model.specs.declared.Reported.the-variants as reported
-use Rattle.model.specs.Tables.{Tables, Queue, isPooled, recordAt}
-use Rattle.model.specs.Sound.{controlSound, rowsFit}
-use Rattle.model.specs.Walk.{contents, isBroken}
+use Rattle.model.specs.{declared.{Control.Control, Reported.Reported}, Tables.{Tables, Queue, isPooled, recordAt}}
+use Rattle.model.specs.{Sound.{controlSound, rowsFit}, Walk.{contents, isBroken}, Lists.count}
 use Rattle.model.specs.Refusals.{rule, first, fits, tableRules, reportRules, reportRefusal}
 use Rattle.model.specs.Report.{busy, report, tell, told, waiting}
-use Rattle.model.proofs.tests.Rules.{cleared, first-refused}
-use Rattle.model.proofs.tests.Truth.{and-true}
-use Rattle.model.specs.Lists.{count}
-use Rattle.walk.specs.declared.Tally.the-variants.{Broken, Labels}
-use Rattle.walk.specs.Counted.{counted}
+use Rattle.model.proofs.tests.{Rules.{cleared, first-refused}, Truth.and-true}
+use Rattle.model.specs.declared.Reported.the-variants as reported
+use Rattle.walk.specs.{declared.Tally.the-variants.{Broken, Labels}, Counted.counted}
 use Rattle.walk.proofs.Counting.{none-counted, all-counted}
 use Rattle.calls.specs.Telling.{countable}
 

@@ -1,12 +1,9 @@
 -- An opening in parts: the tables, and how many records are zeroed.
 use mathlib.Core.Bool.{Bool, cond}
 use Prim.Native.Nat.{ℕ}
-use lib.Dec.{eqb}
-use lib.ListN.{replicate}
-use Rattle.model.specs.declared.Opening.{Opening}
-use Rattle.model.specs.Tables.{Tables, Queue, unused}
+use lib.{Dec.eqb, ListN.replicate}
+use Rattle.model.specs.{declared.Opening.Opening, Tables.{Tables, Queue, unused}, Calls.openAs}
 use Rattle.model.specs.Refusals.{first, openingRules, openRefusal}
-use Rattle.model.specs.Calls.{openAs}
 
 -- Why it is refused, where the tables are long enough or not.
 unfoldable pub openingRefusal : ℕ → ℕ → Bool → ℕ

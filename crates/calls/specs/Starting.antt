@@ -1,18 +1,11 @@
 -- Starts by the lengths told of the tables, whatever lengths they have: why one is refused, and what it leaves of control, record and tables.
-use mathlib.Core.Bool.{cond, false}
-use mathlib.Core.List.{List, []}
+use mathlib.Core.{Bool.{cond, false}, List.{List, []}}
 use Prim.Native.Nat.{ℕ}
 use lib.Dec.{eqb}
-use Rattle.model.specs.declared.Control.{Control}
-use Rattle.model.specs.declared.Call.{Call}
-use Rattle.model.specs.declared.Asked.{Asked}
-use Rattle.model.specs.declared.Answer.the-variants.{Running}
-use Rattle.model.specs.declared.Outcome.the-variants.{Refused, Moved}
-use Rattle.model.specs.declared.Transition.{Transition}
-use Rattle.model.specs.Tables.{Tables, tablesOf, isPooled, withTaken}
-use Rattle.model.specs.Refusals.{startRefusal, namedPush}
-use Rattle.sound.specs.declared.Lengths.{Lengths}
-use Rattle.sound.specs.Lengths.{lengthsFit, amongMany}
+use Rattle.model.specs.declared.{Control.Control, Call.Call, Asked.Asked, Answer.the-variants.Running}
+use Rattle.model.specs.declared.{Outcome.the-variants.{Refused, Moved}, Transition.Transition}
+use Rattle.model.specs.{Tables.{Tables, tablesOf, isPooled, withTaken}, Refusals.{startRefusal, namedPush}}
+use Rattle.sound.specs.{declared.Lengths.Lengths, Lengths.{lengthsFit, amongMany}}
 
 -- Refused: the number alone. Accepted: the record at its first place.
 abbrev pub decided : Control → Call → ℕ → Call → Transition

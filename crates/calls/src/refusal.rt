@@ -3,12 +3,10 @@ use model::Asked;
 use model::Call;
 use model::Control;
 use word::Anchor;
-ghost use mathlib.Core.Path.{_≡_};
-ghost use mathlib.Core.Bool.{Bool, cond};
+ghost use mathlib.Core.{Path._≡_, Bool.{Bool, cond}};
 ghost use lib.Dec.{ltb};
 ghost use Rattle.word.specs.Anchor.{anchorOf};
-ghost use Rattle.model.specs.Sound.{recordSound};
-ghost use Rattle.model.specs.Refusals.{Lent, admission, startRefusal};
+ghost use Rattle.model.specs.{Sound.recordSound, Refusals.{Lent, admission, startRefusal}};
 
 /// The Anchor tag is too high for a start.
 pub fn late(anchor: u64) -> bool

@@ -8,8 +8,7 @@ use walk::Tally;
 use word::Anchor;
 ghost use mathlib.Core.Path.{_≡_};
 ghost use lib.Dec.{leb};
-ghost use Rattle.model.specs.Tables.{tablesOf};
-ghost use Rattle.model.specs.Report.{tell};
+ghost use Rattle.model.specs.{Tables.tablesOf, Report.tell};
 ghost use Rattle.calls.specs.Telling.{countable};
 
 /// How many records the report looks at: one for each task, or none where it will be refused.

@@ -9,10 +9,8 @@ use model::Outcome;
 use model::Transition;
 use sound::Lengths;
 use sound::admission;
-ghost use mathlib.Core.Path.{_≡_};
-ghost use mathlib.Core.List.{[]};
-ghost use Rattle.model.specs.Tables.{newCall, started, asking};
-ghost use Rattle.model.specs.Refusals.{nothingAsked, pooledPush};
+ghost use mathlib.Core.{Path._≡_, List.[]};
+ghost use Rattle.model.specs.{Tables.{newCall, started, asking}, Refusals.{nothingAsked, pooledPush}};
 ghost use Rattle.calls.specs.Starting.{decided, refusedBy, touching, pushRefusedBy, storedUnless};
 
 /// The whole record of a call at its first place.
@@ -69,7 +67,14 @@ pub fn pop_start(c: Control, r: Call, task: usize, side: u64, t: Lengths) -> Tra
 }
 
 /// A push that names no slot: it draws one from the stack, at 12 to 14.
-pub fn put_start(c: Control, r: Call, task: usize, side: u64, label: u32, t: Lengths) -> Transition
+pub fn push_pooled_start(
+    c: Control,
+    r: Call,
+    task: usize,
+    side: u64,
+    label: u32,
+    t: Lengths,
+) -> Transition
     ensures { λ m. ⌜ m ≡ decided c r (refusedBy t c task r side (pooledPush (touching c [] []))) (asking side label) ⌝ }
 {
     let asked = Asked {

@@ -1,32 +1,17 @@
 -- The calls over rows: what their parts say comes to what the call means.
-use mathlib.Core.Path.{_≡_, refl, sym, ap, subst, _∙_}
-use mathlib.Core.Bool.{Bool, true, false, cond}
-use mathlib.Core.List.{List}
+use mathlib.Core.{Path.{_≡_, refl, sym, ap, subst, _∙_}, Bool.{Bool, true, false, cond}, List.List}
 use Prim.Native.Nat.{ℕ, _≤_, min}
 use native.Mathlib.Omega.{arith}
-use lib.Dec.{eqb, leb}
-use lib.ListN.{length, set}
-use Rattle.model.specs.declared.Control.{Control}
-use Rattle.model.specs.declared.Outcome.{Outcome}
-use Rattle.model.specs.declared.Reply.{Reply}
-use Rattle.model.specs.declared.Reported.{Reported}
-use Rattle.model.specs.declared.Op.{Op}
-use Rattle.model.specs.declared.Opening.the-variants as opening
-use Rattle.model.specs.Tables.{Tables, Queue, tablesOf, unused}
-use Rattle.model.specs.Sound.{rowsFit}
-use Rattle.model.specs.Refusals.{openRefusal}
-use Rattle.model.specs.Report.{report, retryCounts, tell}
+use lib.{Dec.{eqb, leb}, ListN.{length, set}}
+use Rattle.model.specs.declared.{Control.Control, Outcome.Outcome, Reply.Reply, Reported.Reported, Op.Op}
+use Rattle.model.specs.{Tables.{Tables, Queue, tablesOf, unused}, Sound.rowsFit, Refusals.openRefusal, Lists.zeroed}
+use Rattle.model.{specs.Report.{report, retryCounts, tell}, proofs.tests.Truth.split}
 use Rattle.model.specs.Calls.{Done, OpenDone, opened as openedQueue, openAs, act, openingCode, replyOf}
-use Rattle.model.proofs.tests.Truth.{split}
-use Rattle.model.specs.Lists.{zeroed}
-use Rattle.calls.specs.declared.opening.OpenedTables.{OpenedTables}
-use Rattle.calls.specs.Opening.{manyRecords, OpenedParts, openTables}
-use Rattle.calls.proofs.Openings.{clear-fits, open-parts, whole}
-use Rattle.calls.specs.Telling.{countable}
-use Rattle.calls.proofs.Counts.{countable-fits}
+use Rattle.model.specs.declared.Opening.the-variants as opening
+use Rattle.calls.specs.{declared.opening.OpenedTables.OpenedTables, Opening.{manyRecords, OpenedParts, openTables}}
+use Rattle.calls.{specs.Telling.countable, proofs.{Openings.{clear-fits, open-parts, whole}, Counts.countable-fits}}
 use Rattle.calls.proofs.Tells.{all-looked-at, report-parts}
-use Rattle.rows.specs.Rows.{controlOf, recordsOf, uppersOf, queueIn}
-use Rattle.rows.proofs.Rows.{length-records, all-zeroed}
+use Rattle.rows.{specs.Rows.{controlOf, recordsOf, uppersOf, queueIn}, proofs.Rows.{length-records, all-zeroed}}
 use Rattle.capi.specs.Replies.{uppersAt, Coded, coded, Replied, replied, busyIn, countsIn, reportReplyOf}
 
 -- A start or step, its outcome in numbers. zeroes: after which outcomes the upper half of the label's word is zero.

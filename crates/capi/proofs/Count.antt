@@ -1,15 +1,10 @@
 -- The count of busy tasks goes on by one record at a time, and is no more than the records counted.
-use mathlib.Core.Path.{_≡_, refl, ap}
-use mathlib.Core.Bool.{Bool, true, false, not, cond}
-use mathlib.Core.List.{List}
+use mathlib.Core.{Path.{_≡_, refl, ap}, Bool.{Bool, true, false, not, cond}, List.List}
 use Prim.Native.Nat.{ℕ, suc, _+_, _≤_}
 use native.Mathlib.Omega.{arith}
-use lib.Dec.{eqb}
-use lib.ListN.{getD}
+use lib.{Dec.eqb, ListN.getD}
 use mir.Val.{boolByte}
-use Rattle.model.specs.declared.Record.{Record}
-use Rattle.model.specs.Tables.{unused}
-use Rattle.model.specs.Lists.{count}
+use Rattle.model.specs.{declared.Record.Record, Tables.unused, Lists.count}
 use Rattle.calls.proofs.Counts.{count-most}
 use Rattle.capi.specs.Replies.{busyIn}
 

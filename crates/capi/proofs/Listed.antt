@@ -1,16 +1,10 @@
 -- The tasks' counts, listed one after the other.
-use mathlib.Core.Path.{_≡_, refl, ap, sym, _∙_}
-use mathlib.Core.Bool.{false, cond}
-use mathlib.Core.List.{List, _∷_}
+use mathlib.Core.{Path.{_≡_, refl, ap, sym, _∙_}, Bool.{false, cond}, List.{List, _∷_}}
 use Prim.Native.Nat.{ℕ, zero, suc, _<_, _≤_}
 use native.Mathlib.Omega.{arith}
-use lib.Dec.{eqb, ltb}
-use lib.ListN.{getD, set, replicate}
+use lib.{Dec.{eqb, ltb}, ListN.{getD, set, replicate}}
 use borrow.Author.Tests.{eq-eqb, eqb-true, eqb-false, ne-eqb, lt-ltb, le-ltb, ltb-true, ltb-false}
-use Rattle.model.specs.declared.Record.{Record}
-use Rattle.model.specs.Tables.{unused}
-use Rattle.model.proofs.tests.Truth.{split}
-use Rattle.model.specs.Lists.{listed}
+use Rattle.model.{specs.{declared.Record.Record, Tables.unused, Lists.listed}, proofs.tests.Truth.split}
 use Rattle.capi.specs.Replies.{countsIn}
 
 listed-same : (f g : ℕ → ℕ) (n : ℕ) → ((t : ℕ) → f t ≡ g t) → listed f n ≡ listed g n

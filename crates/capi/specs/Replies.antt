@@ -1,20 +1,12 @@
 -- Answers in numbers, beside what each lent table then holds.
-use mathlib.Core.Bool.{Bool, not, cond}
-use mathlib.Core.List.{List}
+use mathlib.Core.{Bool.{Bool, not, cond}, List.List}
 use Prim.Native.Nat.{ℕ}
-use lib.Dec.{eqb, ltb}
-use lib.ListN.{getD, replicate, set}
-use Rattle.model.specs.declared.Opening.{Opening}
-use Rattle.model.specs.declared.Opening.the-variants as opening
-use Rattle.model.specs.declared.Outcome.{Outcome}
-use Rattle.model.specs.declared.Reply.{Reply}
-use Rattle.model.specs.declared.Reported.{Reported}
-use Rattle.model.specs.declared.Reported.the-variants as reported
-use Rattle.model.specs.declared.Record.{Record}
-use Rattle.model.specs.Tables.{Queue, unused}
-use Rattle.model.specs.Report.{reportCode}
-use Rattle.model.specs.Calls.{OpenDone, Done, openingCode, replyOf}
+use lib.{Dec.{eqb, ltb}, ListN.{getD, replicate, set}}
+use Rattle.model.specs.declared.{Opening.Opening, Outcome.Outcome, Reply.Reply, Reported.Reported, Record.Record}
+use Rattle.model.specs.{Tables.{Queue, unused}, Report.reportCode, Calls.{OpenDone, Done, openingCode, replyOf}}
 use Rattle.model.specs.Lists.{count, zeroed, listed}
+use Rattle.model.specs.declared.Opening.the-variants as opening
+use Rattle.model.specs.declared.Reported.the-variants as reported
 use Rattle.capi.specs.declared.ReportReply.{ReportReply}
 
 -- A report with the tasks' counts beside it; all 0 in a refusal.

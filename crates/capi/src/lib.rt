@@ -7,14 +7,11 @@ use model::Reply;
 use model::Report;
 use model::Reported;
 use rows::op;
-ghost use mathlib.Core.Path.{_≡_};
-ghost use mathlib.Core.List.{List};
+ghost use mathlib.Core.{Path._≡_, List.List};
 ghost use Prim.Native.Nat.{ℕ, _≤_};
 ghost use lib.ListN.{length};
-ghost use Rattle.model.specs.declared.Op.the-variants.{Push, Pop, PushPooled, Step};
-ghost use Rattle.model.specs.declared.Reported.the-variants.{Refused, Told};
-ghost use Rattle.model.specs.Calls.{act};
-ghost use Rattle.model.specs.Report.{report, retryCounts};
+ghost use Rattle.model.specs.{declared.Op.the-variants.{Push, Pop, PushPooled, Step}, Calls.act};
+ghost use Rattle.model.specs.{declared.Reported.the-variants.{Refused, Told}, Report.{report, retryCounts}};
 ghost use Rattle.model.specs.Ends.{endsCall, isMoved};
 ghost use Rattle.rows.specs.Rows.{queueIn, recordsOf, uppersOf};
 ghost use Rattle.capi.specs.Replies.{reportReplyOf, busyIn, countsIn, Replied, replied};
@@ -139,7 +136,7 @@ pub extern "C" fn zc_push_pooled(
         (now (lefts .entry)) (now (rights .entry)) (now (labels .entry)) (now (marks .entry)) (now (next .entry)))
         task (PushPooled side label))) ⌝ }
 {
-    let o = op::put(
+    let o = op::push_pooled(
         control,
         records,
         task,

@@ -1,8 +1,7 @@
 // The two ways of opening: a named queue, and a pooled one.
 use calls::opening;
 use model::Opening;
-ghost use mathlib.Core.Path.{_≡_};
-ghost use mathlib.Core.List.{List};
+ghost use mathlib.Core.{Path._≡_, List.List};
 ghost use Prim.Native.Nat.{ℕ};
 ghost use Rattle.model.specs.Calls.{openQueue, openPooled, openingCode};
 ghost use Rattle.rows.specs.Rows.{queueIn, uppersOf};

@@ -1,21 +1,11 @@
 -- The call over rows: what its parts say comes to what it means.
-use mathlib.Core.Path.{_≡_, sym, ap, _∙_}
-use mathlib.Core.Bool.{Bool}
-use mathlib.Core.List.{List}
+use mathlib.Core.{Path.{_≡_, sym, ap, _∙_}, Bool.Bool, List.List}
 use Prim.Native.Nat.{ℕ}
-use Rattle.model.specs.declared.Control.{Control}
-use Rattle.model.specs.declared.Outcome.{Outcome}
-use Rattle.model.specs.declared.Outcome.the-variants.{Refused}
-use Rattle.model.specs.declared.Reply.{Reply}
-use Rattle.model.specs.Tables.{Tables, isPooled, tablesOf}
-use Rattle.model.specs.Sound.{rowsFit}
-use Rattle.model.specs.Refusals.{alone}
-use Rattle.model.specs.Calls.{stepLent, replyOf}
+use Rattle.model.specs.{declared.{Control.Control, Outcome.{Outcome, the-variants.Refused}, Reply.Reply}, Sound.rowsFit}
+use Rattle.model.specs.{Tables.{Tables, isPooled, tablesOf}, Refusals.{alone, admission}, Calls.{stepLent, replyOf}}
 use Rattle.sound.specs.Lengths.{lengthsOf, lengthsFit}
-use Rattle.model.specs.Refusals.{admission}
 use Rattle.engine.proofs.InParts.{turned-away, admitted}
-use Rattle.rows.specs.Rows.{controlOf, recordOf, upperOf}
-use Rattle.rows.specs.Moved.{RowMoved}
+use Rattle.rows.specs.{Rows.{controlOf, recordOf, upperOf}, Moved.RowMoved}
 use Rattle.capi_record.specs.Replies.{RepliedAlone, repliedAlone}
 
 module _ (ws row lefts rights labels marks next : List ℕ) (c : Control) (ec : c ≡ controlOf ws) where

@@ -4,8 +4,7 @@ use model::Reply;
 use sound::Lengths;
 use sound::admission;
 ghost use mathlib.Core.Path.{_≡_};
-ghost use Rattle.model.specs.Tables.{tablesOf};
-ghost use Rattle.model.specs.Calls.{stepLent};
+ghost use Rattle.model.specs.{Tables.tablesOf, Calls.stepLent};
 ghost use Rattle.rows.specs.Rows.{controlOf, recordOf, upperOf};
 ghost use Rattle.capi_record.specs.Replies.{RepliedAlone, repliedAlone};
 

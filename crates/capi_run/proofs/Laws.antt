@@ -1,14 +1,9 @@
 -- A refused run is its first step's refusal.
-use mathlib.Core.Bool.{cond}
-use mathlib.Core.Path.{ap}
+use mathlib.Core.{Bool.cond, Path.ap}
 use Prim.Native.Nat.{ℕ}
-use Rattle.model.specs.declared.Outcome.{Outcome}
-use Rattle.model.specs.Tables.{Queue}
-use Rattle.model.specs.Ends.{isMoved}
-use Rattle.model.specs.Solo.{SoloDone, soloRun, soloSteps}
+use Rattle.model.specs.{declared.Outcome.Outcome, Tables.Queue, Ends.isMoved, Solo.{SoloDone, soloRun, soloSteps}}
 use Rattle.model.proofs.laws.Runs.{run-refused}
-use Rattle.capi_run.specs.Replies.{ran}
-use Rattle.capi_run.specs.Laws.{RefusalKeeps}
+use Rattle.capi_run.specs.{Replies.ran, Laws.RefusalKeeps}
 
 -- The run of a task whose first step has the outcome o.
 abbrev by : ℕ → Queue → ℕ → Outcome → SoloDone

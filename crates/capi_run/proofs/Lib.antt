@@ -1,3 +1,3 @@
-pub mod StepsLeft
+pub mod StepsToGo
 pub mod NoSteps
 pub mod Laws

@@ -1,26 +1,15 @@
 -- A run of no steps, by what a step would be refused by.
-use mathlib.Core.Path.{_≡_, refl, ap, sym, _∙_}
-use mathlib.Core.Bool.{false, cond}
-use mathlib.Core.List.{List}
+use mathlib.Core.{Path.{_≡_, refl, ap, sym, _∙_}, Bool.{false, cond}, List.List}
 use Prim.Native.Nat.{ℕ}
-use lib.Dec.{leb, ltb}
-use lib.ListN.{length, set}
+use lib.{Dec.{leb, ltb}, ListN.{length, set}}
 use borrow.Author.Tests.{eq-eqb, ne-eqb}
-use Rattle.model.specs.declared.{Control.Control, Call.Call}
-use Rattle.model.specs.declared.Answer.the-variants.{Running}
-use Rattle.model.specs.declared.Outcome.the-variants.{Refused, Moved}
-use Rattle.model.specs.declared.Op.the-variants.{Step}
-use Rattle.model.specs.Tables.{Queue, recordAt, tablesOf}
-use Rattle.model.specs.Refusals.{among, stepRefusal}
-use Rattle.model.specs.Calls.{act, actOn, finish, step}
-use Rattle.model.specs.Ends.{isMoved, endsCall}
-use Rattle.model.specs.Solo.{SoloDone, soloRun, soloSteps}
-use Rattle.model.proofs.tests.Truth.{by-test}
-use Rattle.rows.specs.Rows.{controlOf, queueIn}
-use Rattle.rows.proofs.Rows.{length-records}
-use Rattle.capi_run.specs.declared.RunReply.{RunReply}
-use Rattle.capi_run.specs.Replies.{runReplyOf, Ran, ran}
-use Rattle.capi_run.proofs.StepsLeft.{not-made}
+use Rattle.model.specs.declared.{Control.Control, Call.Call, Answer.the-variants.Running, Op.the-variants.Step}
+use Rattle.model.specs.{declared.Outcome.the-variants.{Refused, Moved}, Tables.{Queue, recordAt, tablesOf}}
+use Rattle.model.specs.{Refusals.{among, stepRefusal}, Calls.{act, actOn, finish, step}, Ends.{isMoved, endsCall}}
+use Rattle.model.{specs.Solo.{SoloDone, soloRun, soloSteps}, proofs.tests.Truth.by-test}
+use Rattle.rows.{specs.Rows.{controlOf, queueIn}, proofs.Rows.length-records}
+use Rattle.capi_run.specs.{declared.RunReply.RunReply, Replies.{runReplyOf, Ran, ran}}
+use Rattle.capi_run.proofs.StepsToGo.{not-made}
 
 module _ (q : Queue) (t : ℕ) where
   abbrev pub fault : ℕ

@@ -1,11 +1,7 @@
 -- What is promised of a run beyond what it answers. (Document 01, refusals: a refusal is its number alone; every table keeps its contents.)
-use mathlib.Core.List.{List}
-use mathlib.Core.Path.{_≡_}
+use mathlib.Core.{List.List, Path._≡_}
 use Prim.Native.Nat.{ℕ}
-use Rattle.model.specs.declared.Op.the-variants.{Step}
-use Rattle.model.specs.declared.Outcome.the-variants.{Refused}
-use Rattle.model.specs.Tables.{Queue}
-use Rattle.model.specs.Calls.{act}
+use Rattle.model.specs.{declared.{Op.the-variants.Step, Outcome.the-variants.Refused}, Tables.Queue, Calls.act}
 use Rattle.model.specs.Solo.{soloRun}
 use Rattle.capi_run.specs.Replies.{Ran, ran, runReplyOf}
 

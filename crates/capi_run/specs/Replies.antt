@@ -3,8 +3,7 @@
 use mathlib.Core.{Bool.cond, List.List}
 use Prim.Native.Nat.{ℕ}
 use lib.ListN.{set}
-use Rattle.model.specs.declared.Outcome.{Outcome}
-use Rattle.model.specs.{Tables.Queue, Calls.replyOf, Ends.endsCall, Solo.SoloDone}
+use Rattle.model.specs.{declared.Outcome.Outcome, Tables.Queue, Calls.replyOf, Ends.endsCall, Solo.SoloDone}
 use Rattle.capi_run.specs.declared.RunReply.{RunReply}
 
 abbrev pub runReplyOf : Outcome → ℕ → RunReply

@@ -1,14 +1,11 @@
 -- The route's entries, and why only places 11 and 17 name an entry in their answer.
-use mathlib.Core.{Path._≡_, List.List}
-use mathlib.Core.Bool.{Bool, false, _&&_}
+use mathlib.Core.{Path._≡_, List.List, Bool.{Bool, false, _&&_}}
 use Prim.Native.Nat.{ℕ}
 use lib.{Dec.eqb, ListN.getD}
 use Rattle.word.specs.declared.Anchor.{Anchor}
-use Rattle.model.specs.declared.{Control.Control, Call.Call, Entry.Entry}
-use Rattle.model.specs.{Places.reading, Sides.isEmpty}
-use Rattle.model.specs.Route.{route, popped, leave, onward, answer}
+use Rattle.model.specs.{declared.{Control.Control, Call.Call, Entry.Entry}, Places.reading, Sides.isEmpty}
+use Rattle.model.{specs.Route.{route, popped, leave, onward, answer}, proofs.tests.Truth.split}
 use Rattle.decide.specs.Ending.{settled, noEntry}
-use Rattle.model.proofs.tests.Truth.{split}
 
 -- What holds of a route for a push and for a pop holds for every kind.
 pub kinds : (P : ℕ → Type 0) (place kind outcome : ℕ) → P (route place 0 outcome) → P (route place 1 outcome) → P (route place kind outcome)

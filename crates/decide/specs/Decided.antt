@@ -2,24 +2,20 @@
 -- of each change. What 1, 2, 4, 6, 8, 10, 12, 15 and 17 make of Anchor or head, which control holds, is in `Ending`.
 use mathlib.Core.Bool.{Bool, _&&_, not, cond}
 use Prim.Native.Nat.{ℕ, _+_}
-use lib.Dec.{eqb, leb, ltb}
-use Rattle.word.specs.declared.Anchor.{Anchor}
-use Rattle.word.specs.Anchor.{anchorOf, packAnchor}
-use Rattle.word.specs.Link.{linkOf, packLink}
-use Rattle.model.specs.declared.{Control.Control, Call.Call, Transition.Transition}
-use Rattle.model.specs.{Sound.from1, Kinds.isPush, Ends.isMoved}
-use Rattle.model.specs.Sides.{near, far, facing, pushing}
+use lib.Dec.{eqb, leb}
+use Rattle.word.specs.{declared.Anchor.Anchor, Anchor.{anchorOf, packAnchor}, Link.{linkOf, packLink}}
+use Rattle.model.specs.{declared.{Control.Control, Call.Call, Transition.Transition}, Sound.from1, Kinds.isPush}
+use Rattle.model.specs.{Ends.isMoved, Sides.{near, far, facing, pushing}, Tables.{isPooled, withNeighbour, withOwn}}
 use Rattle.model.specs.Route.{route, onlyWay, done, hasFailed, equal, unequal, namedQueue, pooledQueue}
-use Rattle.model.specs.Tables.{isPooled, withNeighbour, withOwn}
-use Rattle.decide.specs.declared.touched.LinkWord.{LinkWord}
-use Rattle.decide.specs.Ending.{refused, settled, noEntry, failing, headed, rowSound, neighbourRead, linkRead}
+use Rattle.decide.specs.{declared.touched.LinkWord.LinkWord, Ending.linkRead}
+use Rattle.decide.specs.Ending.{refused, settled, noEntry, failing, tagHasRoom, headed, rowSound, neighbourRead}
 
 -- The end as read: at the task's side, and at 5 to 10 at the side that the status names. The slot of the head as read.
 abbrev pub ownEnd : Call → ℕ
 ownEnd r = cond (eqb (r .side) 1) (anchorOf (r .seen) .right) (anchorOf (r .seen) .left)
 
-abbrev pub namedEnd : Call → ℕ
-namedEnd r = cond (eqb (anchorOf (r .seen) .status) 1) (anchorOf (r .seen) .right) (anchorOf (r .seen) .left)
+abbrev pub statusEnd : Call → ℕ
+statusEnd r = cond (eqb (anchorOf (r .seen) .status) 1) (anchorOf (r .seen) .right) (anchorOf (r .seen) .left)
 
 abbrev pub top : Call → ℕ
 top r = linkOf (r .link) .slot
@@ -59,7 +55,7 @@ new4 r =
     packAnchor (facing (r .side) (a .tag + 1) status end (far (r .side) a))
 
 abbrev pub new9 : Call → ℕ
-new9 r = packLink (record { tag = linkOf (r .link) .tag + 1; slot = namedEnd r })
+new9 r = packLink (record { tag = linkOf (r .link) .tag + 1; slot = statusEnd r })
 
 abbrev pub new10 : Call → ℕ
 new10 r =
@@ -83,16 +79,16 @@ found3 c r w =
     (neighbourRead c r (ownEnd r) w (route 3 (r .kind) onlyWay))
 
 unfoldable pub found5 : Control → Call → ℕ → Transition
-found5 c r w = neighbourRead c r (namedEnd r) w (route 5 (r .kind) onlyWay)
+found5 c r w = neighbourRead c r (statusEnd r) w (route 5 (r .kind) onlyWay)
 
 unfoldable pub found7 : Control → Call → ℕ → Transition
-found7 c r w = linkRead c r (namedEnd r) w (route 7 (r .kind) equal) (route 7 (r .kind) unequal)
+found7 c r w = linkRead c r (statusEnd r) w (route 7 (r .kind) equal) (route 7 (r .kind) unequal)
 
 unfoldable pub found9 : Control → Call → ℕ → Transition
 found9 c r w =
     cond (from1 (c .slots) (r .neighbour))
     (cond (eqb w (r .link))
-    (cond (ltb (linkOf (r .link) .tag) 4294967295) (settled c r (route 9 (r .kind) done) noEntry) (refused c r))
+    (cond (tagHasRoom (r .link)) (settled c r (route 9 (r .kind) done) noEntry) (refused c r))
     (failing (settled c r (route 9 (r .kind) hasFailed) noEntry)))
     (refused c r)
 
@@ -110,7 +106,7 @@ found13 c r n = cond (leb n (c .slots)) (settled c (withNeighbour r n) (route 13
 unfoldable pub found14 : Control → Call → Transition
 found14 c r =
     cond (eqb (c .head) (r .link))
-    (cond (ltb (linkOf (r .link) .tag) 4294967295)
+    (cond (tagHasRoom (r .link))
     (settled (headed c (new14 r)) (withOwn r (top r) (r .label)) (route 14 (r .kind) done) noEntry)
     (refused c r))
     (failing (settled c r (route 14 (r .kind) hasFailed) noEntry))

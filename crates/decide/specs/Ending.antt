@@ -1,13 +1,11 @@
 -- How a step ends, by value: refused, gone on, Anchor compared or changed, a link or the head read.
-use mathlib.Core.Bool.{Bool, true, false, _&&_, cond}
-use Prim.Native.Nat.{ℕ}
+use mathlib.Core.Bool.{Bool, true, false, _&&_, not, cond}
+use Prim.Native.Nat.{ℕ, _/_, _^_}
 use lib.Dec.{eqb, ltb}
 use Rattle.word.specs.{Anchor.anchorOf, Link.linkOf}
 use Rattle.model.specs.declared.{Control.Control, Call.Call, Entry.Entry, Transition.Transition}
-use Rattle.model.specs.declared.Outcome.the-variants.{Refused, Moved}
-use Rattle.model.specs.Sound.{from1, anchorSound, linkSound}
-use Rattle.model.specs.Route.{onward, goes, answer}
-use Rattle.model.specs.Tables.{withSeen, withNeighbour, withLink, withWords}
+use Rattle.model.specs.{declared.Outcome.the-variants.{Refused, Moved}, Sound.{from1, anchorSound, linkSound}}
+use Rattle.model.specs.{Route.{onward, goes, answer}, Tables.{withSeen, withNeighbour, withLink, withWords}}
 
 abbrev pub refused : Control → Call → Transition
 refused c r = record { control = c; task = r; outcome = Refused 34; failed = false }
@@ -35,9 +33,17 @@ headed c w = withWords c (c .anchor) w
 abbrev pub noEntry : Entry
 noEntry = record { slot = 0; label = 0 }
 
+-- The tag of an Anchor, a link word or a head can be raised.
+abbrev pub tagHasRoom : ℕ → Bool
+tagHasRoom w = ltb (w / 2 ^ 32) 4294967295
+
 -- The tag as read can be raised, and the new Anchor is sound.
 unfoldable pub mayChange : ℕ → ℕ → ℕ → Bool
-mayChange slots seen new = anchorSound slots (anchorOf new) && ltb (anchorOf seen .tag) 4294967295
+mayChange slots seen new = anchorSound slots (anchorOf new) && tagHasRoom seen
+
+-- Anchor is as read, so that a change to `new` would be made, and it may not be.
+unfoldable pub changeRefused : Control → Call → ℕ → Bool
+changeRefused c r new = eqb (c .anchor) (r .seen) && not (mayChange (c .slots) (r .seen) new)
 
 -- A push whose change of Anchor at place 4 is done remembers the new word, and is finishing.
 unfoldable pub remembered : Call → ℕ → Call

@@ -16,8 +16,8 @@ use route::next;
 use word::Anchor;
 use word::Link;
 ghost use mathlib.Core.Path.{_≡_};
-ghost use Rattle.decide.specs.Decided.{madeOf, found3, found5, found7, found9, found11, found13, found14, found16};
-ghost use Rattle.decide.specs.Decided.{new2, new3, new4, new9, new10, new14, new17};
+ghost use Rattle.decide.specs.Decided.{madeOf, found3, found5, found7, found9, found11, found13, found14, new2};
+ghost use Rattle.decide.specs.Decided.{found16, new3, new4, new9, new10, new14, new17};
 
 /// Place 2: own, own, s; of a pop null, null, s.
 pub fn new2(r: Call) -> u64
@@ -54,7 +54,7 @@ pub fn new4(r: Call) -> u64
 pub fn new9(r: Call) -> u64
     ensures { λ w. ⌜ w ≡ new9 r ⌝ }
 {
-    step::link_word(step::raised(r.link), touched::named_end(r))
+    step::link_word(step::raised(r.link), touched::status_end(r))
 }
 
 /// Place 10: l, r, STABLE.
@@ -122,7 +122,7 @@ pub fn at5(c: Control, r: Call, w: u64) -> Transition
 pub fn at7(c: Control, r: Call, w: u64) -> Transition
     ensures { λ m. ⌜ m ≡ found7 c r w ⌝ }
 {
-    let end = touched::named_end(r);
+    let end = touched::status_end(r);
     let names_end = next::next(7, r.kind, next::EQUAL);
     let other = next::next(7, r.kind, next::UNEQUAL);
     step::reads_link(c, r, end, w, names_end, other)
@@ -132,15 +132,14 @@ pub fn at7(c: Control, r: Call, w: u64) -> Transition
 pub fn at9(c: Control, r: Call, w: u64) -> Transition
     ensures { λ m. ⌜ m ≡ found9 c r w ⌝ }
 {
-    let link = Link::unpack(r.link);
-    if !sound::from1(c.slots, r.neighbour) {
+    if !touched::is_slot(c.slots, touched::link7(r).slot) {
         return step::refused(c, r);
     }
     if w != r.link {
         let m = step::settles(c, r, next::next(9, r.kind, next::FAILED), step::NO_ENTRY);
         return step::fails(m);
     }
-    if link.tag < Link::TAG_MASK {
+    if step::has_room(r.link) {
         return step::settles(c, r, next::next(9, r.kind, next::DONE), step::NO_ENTRY);
     }
     step::refused(c, r)
@@ -152,7 +151,7 @@ pub fn at11(c: Control, r: Call, label: u32) -> Transition
     ensures { λ m. ⌜ m ≡ found11 c r label ⌝ }
 {
     let end = touched::own_end(r);
-    if sound::from1(c.slots, end) {
+    if touched::is_slot(c.slots, end) {
         if c.pooled == 1 {
             let mut t = r;
             t.own = end;
@@ -181,12 +180,11 @@ pub fn at13(c: Control, r: Call, w: u64) -> Transition
 pub fn at14(c: Control, r: Call) -> Transition
     ensures { λ m. ⌜ m ≡ found14 c r ⌝ }
 {
-    let head = Link::unpack(r.link);
     if c.head != r.link {
         let m = step::settles(c, r, next::next(14, r.kind, next::FAILED), step::NO_ENTRY);
         return step::fails(m);
     }
-    if head.tag < Link::TAG_MASK {
+    if step::has_room(r.link) {
         let d = step::with_head(c, new14(r));
         let top = touched::top(r);
         let mut t = r;

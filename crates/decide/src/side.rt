@@ -1,7 +1,6 @@
 //! Left as the mirror of right: ends and statuses as seen from a side.
 use word::Anchor;
-ghost use mathlib.Core.Path.{_≡_};
-ghost use mathlib.Core.Bool.{cond};
+ghost use mathlib.Core.{Path._≡_, Bool.cond};
 ghost use Rattle.word.specs.Anchor.{packAnchor};
 
 /// x if b holds, else y.

@@ -1,4 +1,5 @@
 //! How a step ends: refused, made, or a change of Anchor tried.
+use crate::touched;
 use model::Answer;
 use model::Call;
 use model::Control;
@@ -8,14 +9,12 @@ use model::Transition;
 use route::next;
 use word::Anchor;
 use word::Link;
-ghost use mathlib.Core.Path.{_≡_};
-ghost use mathlib.Core.Bool.{false, cond};
+ghost use mathlib.Core.{Path._≡_, Bool.{false, cond}};
 ghost use Prim.Native.Nat.{_+_, _/_, _^_};
 ghost use Rattle.word.specs.Link.{packLink};
-ghost use Rattle.model.specs.Tables.{idle, withSeen};
-ghost use Rattle.model.specs.Route.{goes};
-ghost use Rattle.decide.specs.Ending.{refused, settled, failing, mayChange, anchored, headed, remembered};
-ghost use Rattle.decide.specs.Ending.{compared, rowSound, neighbourRead, linkRead, headRead};
+ghost use Rattle.model.specs.{Tables.{idle, withSeen}, Route.goes};
+ghost use Rattle.decide.specs.Ending.{refused, settled, failing, tagHasRoom, mayChange, changeRefused, anchored};
+ghost use Rattle.decide.specs.Ending.{headed, remembered, compared, rowSound, neighbourRead, linkRead, headRead};
 
 /// For a step that pops nothing.
 pub const NO_ENTRY: Entry = Entry { slot: 0, label: 0 };
@@ -88,7 +87,7 @@ pub fn settles(c: Control, t: Call, n: u8, e: Entry) -> Transition
         ends(c, Answer::Empty)
     } else if n == next::POPPED {
         ends(c, Answer::Popped(e))
-    } else if n == next::NO_SLOT {
+    } else if n == next::NO_FREE_SLOT {
         ends(c, Answer::NoFreeSlot)
     } else {
         goes(c, t, n)
@@ -121,13 +120,26 @@ pub fn raised(w: u64) -> u64
     a.tag + 1
 }
 
+/// Whether the tag of a word can be raised.
+pub fn has_room(w: u64) -> bool
+    ensures { λ b. ⌜ b ≡ tagHasRoom w ⌝ }
+{
+    let a = Anchor::unpack(w);
+    a.tag < Anchor::TAG_MASK
+}
+
 /// Whether Anchor may be changed from `seen` to `new`: the tag can be raised, and `new` is sound.
 pub fn may_change(slots: u64, seen: u64, new: u64) -> bool
     ensures { λ b. ⌜ b ≡ mayChange slots seen new ⌝ }
 {
-    let a = Anchor::unpack(seen);
-    let sound = sound::anchor_sound(slots, new);
-    sound & (a.tag < Anchor::TAG_MASK)
+    sound::anchor_sound(slots, new) & has_room(seen)
+}
+
+/// Whether a change of Anchor to `new` is refused: Anchor is as read, so that the change would be made, and may not be.
+pub fn change_refused(c: Control, r: Call, new: u64) -> bool
+    ensures { λ b. ⌜ b ≡ changeRefused c r new ⌝ }
+{
+    (c.anchor == r.seen) & !may_change(c.slots, r.seen, new)
 }
 
 /// The control with another Anchor.
@@ -175,7 +187,7 @@ pub fn compares(c: Control, r: Call, same: u8, other: u8) -> Transition
 pub fn row_sound(slots: u64, x: u64, w: u64) -> bool
     ensures { λ b. ⌜ b ≡ rowSound slots x w ⌝ }
 {
-    sound::from1(slots, x) & sound::link_sound(slots, w)
+    touched::is_slot(slots, x) & sound::link_sound(slots, w)
 }
 
 pub fn link_word(tag: u64, slot: u64) -> u64

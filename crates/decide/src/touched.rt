@@ -5,7 +5,15 @@ use model::Call;
 use word::Anchor;
 use word::Link;
 ghost use mathlib.Core.Path.{_≡_};
-ghost use Rattle.decide.specs.Decided.{ownEnd, namedEnd, top, link3Of, link3, link5Of, link5, link7};
+ghost use Rattle.model.specs.Sound.{from1};
+ghost use Rattle.decide.specs.Decided.{ownEnd, statusEnd, top, link3Of, link3, link5Of, link5, link7};
+
+/// Whether a place at 3 to 11 may touch slot x, which is then one of the queue's; else its step is refused with 34.
+pub fn is_slot(slots: u64, x: u64) -> bool
+    ensures { λ b. ⌜ b ≡ from1 slots x ⌝ }
+{
+    sound::from1(slots, x)
+}
 
 /// A link word of a slot: its Right or its Left.
 pub struct LinkWord {
@@ -22,8 +30,8 @@ pub fn own_end(r: Call) -> u64
 }
 
 /// The end as read at the side that the status names.
-pub fn named_end(r: Call) -> u64
-    ensures { λ x. ⌜ x ≡ namedEnd r ⌝ }
+pub fn status_end(r: Call) -> u64
+    ensures { λ x. ⌜ x ≡ statusEnd r ⌝ }
 {
     let a = Anchor::unpack(r.seen);
     side::near(a.status == 1, a)

@@ -8,10 +8,8 @@ use rows::value::Stepped;
 use sound::Lengths;
 use sound::admission;
 ghost use mathlib.Core.Path.{_≡_};
-ghost use Rattle.model.specs.declared.Op.the-variants.{Step};
-ghost use Rattle.model.specs.Tables.{tablesOf, queueOf};
+ghost use Rattle.model.specs.{declared.Op.the-variants.Step, Tables.{tablesOf, queueOf}, Calls.{Done, act, stepLent}};
 ghost use Rattle.model.specs.Calls as calls;
-ghost use Rattle.model.specs.Calls.{Done, act, stepLent};
 
 /// The step of a record lent alone.
 fn step_alone(
@@ -49,7 +47,7 @@ fn step_alone(
             outcome,
         };
     }
-    value::move_on(c, t, lefts, rights, labels, marks, next)
+    value::step_by_value(c, t, lefts, rights, labels, marks, next)
 }
 
 /// Moves a task by one step.
@@ -83,13 +81,13 @@ pub fn step(
         marks: marks.len(),
         next: next.len(),
     };
-    let why = admission::admit(c, task, lent);
+    let why = admission::admit_step(c, task, lent);
     if why != 0 {
         return engine::refuse(why);
     }
     let record = &mut records[task];
     let t = *record;
-    let m = value::move_on(c, t, lefts, rights, labels, marks, next);
+    let m = value::step_by_value(c, t, lefts, rights, labels, marks, next);
     *control = m.control;
     *record = m.task;
     m.outcome

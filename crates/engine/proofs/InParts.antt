@@ -1,20 +1,15 @@
 -- The model's step in its two parts, and the second by its place.
-use mathlib.Core.Path.{_≡_, refl, ap, sym, _∙_}
-use mathlib.Core.Bool.{true, _&&_, cond, and-eq-true-iff}
+use mathlib.Core.{Path.{_≡_, refl, ap, sym, _∙_}, Bool.{true, _&&_, cond, and-eq-true-iff}}
 use Prim.Native.Nat.{ℕ, suc, _≤_}
 use native.Mathlib.Omega.{arith}
 use lib.Dec.{eqb}
 use borrow.Author.Tests.{leb-true, eqb-false, ne-eqb}
-use Rattle.model.specs.declared.Record.{Record}
-use Rattle.model.specs.declared.Outcome.the-variants.{Refused}
-use Rattle.model.specs.Tables.{Tables, isPooled}
-use Rattle.model.specs.Sound.{controlSound, recordSound, rowsFit}
-use Rattle.model.specs.Places.{wordFound, move}
-use Rattle.model.specs.Refusals.{Lent, stepSound, stepRefusal, admission, recordRefusal}
-use Rattle.model.specs.Calls.{decide, finish, step}
+use Rattle.model.specs.{declared.{Record.Record, Outcome.the-variants.Refused}, Tables.{Tables, isPooled}}
+use Rattle.model.specs.{Sound.{controlSound, recordSound, rowsFit}, Places.{wordFound, move}}
+use Rattle.model.specs.{Refusals.{Lent, stepSound, stepRefusal, admission, recordRefusal}, Calls.{decide, finish, step}}
 use Rattle.model.proofs.tests.Truth.{split}
 use Rattle.places.specs.Arm.{stepAt}
-use Rattle.engine.specs.MoveOn.{moveOn}
+use Rattle.engine.specs.StepAdmitted.{stepAdmitted}
 
 pub above : {n x : ℕ} → n ≤ x → (x ≡ n → ⊥) → suc n ≤ x
 above low other = omega arith
@@ -33,8 +28,8 @@ module _ (q : Tables) (p : Lent) (r : Record) where
   abbrev pub why : ℕ
   why = admission (q .control) (rowsFit (isPooled (q .control)) (q .control .slots) q) p
 
-  pub in-parts : step q p r ≡ cond (eqb why 0) (moveOn q r) (record { tables = q; task = r; outcome = Refused why })
-  unfolding step stepRefusal admission recordRefusal moveOn
+  pub in-parts : step q p r ≡ cond (eqb why 0) (stepAdmitted q r) (record { tables = q; task = r; outcome = Refused why })
+  unfolding step stepRefusal admission recordRefusal stepAdmitted
   in-parts =
       split (controlSound (q .control))
       (λ a. split (rowsFit (isPooled (q .control)) (q .control .slots) q && p .enough)
@@ -52,7 +47,7 @@ module _ (q : Tables) (p : Lent) (r : Record) where
   pub turned-away : (w : ℕ) → w ≡ why → (w ≡ 0 → ⊥) → record { tables = q; task = r; outcome = Refused w } ≡ step q p r
   turned-away w e h = sym (rw (← e, ne-eqb _ _ h) at in-parts)
 
-  pub admitted : why ≡ 0 → moveOn q r ≡ step q p r
+  pub admitted : why ≡ 0 → stepAdmitted q r ≡ step q p r
   admitted none = sym (rw none at in-parts)
 
   -- An admitted task has a record among so many.
@@ -71,12 +66,12 @@ module _ (q : Tables) (r : Record) where
   abbrev pub fault : ℕ
   fault = recordRefusal (isPooled (q .control)) (q .control .slots) (r .call)
 
-  pub stopped : (w : ℕ) → w ≡ fault → (w ≡ 0 → ⊥) → record { tables = q; task = r; outcome = Refused w } ≡ moveOn q r
-  unfolding moveOn
+  pub stopped : (w : ℕ) → w ≡ fault → (w ≡ 0 → ⊥) → record { tables = q; task = r; outcome = Refused w } ≡ stepAdmitted q r
+  unfolding stepAdmitted
   stopped w e h = rw (← e, ne-eqb _ _ h)
 
-  pub at-place : (n : ℕ) → fault ≡ 0 → r .call .place ≡ n → stepAt n q (r .call) (r .retries) ≡ moveOn q r
-  unfolding moveOn
+  pub at-place : (n : ℕ) → fault ≡ 0 → r .call .place ≡ n → stepAt n q (r .call) (r .retries) ≡ stepAdmitted q r
+  unfolding stepAdmitted
   at-place n none at = ap (λ (k : ℕ). stepAt k q (r .call) (r .retries)) (sym at) ∙ rw none
 
   -- Past the refusals the place is 1 to 17, and in a named queue 1 to 11.

@@ -1,18 +1,13 @@
 -- What is stored after a step is what the step leaves, since it changes nothing else (`Unchanged`).
-use mathlib.Core.Path.{_≡_, refl, sym, ap, ap₂, subst, _∙_}
-use mathlib.Core.Bool.{true, false}
-use mathlib.Core.List.{List}
+use mathlib.Core.{Path.{_≡_, refl, sym, ap, ap₂, subst, _∙_}, Bool.{true, false}, List.List}
 use Prim.Native.Nat.{ℕ, _≤_}
 use Rattle.model.specs.declared.{Control.Control, Call.Call, Record.Record, Outcome.Outcome, Transition.Transition}
+use Rattle.model.specs.{Tables.{Tables, tablesOf, counting, idle, ofKind, withCall, withOwn, withWords}, Route.counted}
+use Rattle.model.{specs.{Calls.Acted, Ends.{endsCall, isMoved}}, proofs.tests.Truth.{split, not-both}}
 use Rattle.model.specs.declared.Outcome.the-variants as outcome
-use Rattle.model.specs.Tables.{Tables, tablesOf, counting, idle, ofKind, withCall, withOwn, withWords}
-use Rattle.model.specs.{Route.counted, Calls.Acted}
-use Rattle.model.proofs.tests.Truth.{split, not-both}
-use Rattle.model.specs.Ends.{endsCall, isMoved}
-use Rattle.engine.specs.MoveOn.{moveOn}
-use Rattle.engine.specs.Stored.{anchorMoved, callMoved, headMoved, ownMoved, anchorAfter, callAfter, headAfter, ownAfter}
-use Rattle.engine.proofs.ByPlace.{Keeps}
-use Rattle.engine.proofs.Unchanged.{Unchanged, moved-on}
+use Rattle.engine.specs.{StepAdmitted.stepAdmitted, Stored.ownAfter}
+use Rattle.engine.specs.Stored.{anchorMoved, callMoved, headMoved, ownMoved, anchorAfter, callAfter, headAfter}
+use Rattle.engine.proofs.{ByPlace.Keeps, Unchanged.{Unchanged, admitted-unchanged}}
 
 -- A refused step ends no call.
 pub refused-goes : (o : Outcome) → isMoved o ≡ false → endsCall o ≡ false
@@ -25,19 +20,19 @@ module _ (c : Control) (r : Record) (m : Transition) where
   abbrev pub goneOn : Call → Record
   goneOn t = counting t (counted (r .retries) (m .failed))
 
-  pub early-end : isMoved (m .outcome) ≡ true → endsCall (m .outcome) ≡ true
+  pub deque-end : isMoved (m .outcome) ≡ true → endsCall (m .outcome) ≡ true
       → (anchorMoved c (m .control) ≡ anchorAfter c m) × (goneOn idle ≡ callAfter r m)
   unfolding anchorAfter callAfter
-  early-end a b = (rw a, rw (a, b))
+  deque-end a b = (rw a, rw (a, b))
 
-  pub early-going : isMoved (m .outcome) ≡ true → endsCall (m .outcome) ≡ false
+  pub deque-going : isMoved (m .outcome) ≡ true → endsCall (m .outcome) ≡ false
       → (anchorMoved c (m .control) ≡ anchorAfter c m) × (goneOn (callMoved (r .call) (m .task)) ≡ callAfter r m)
   unfolding anchorAfter callAfter
-  early-going a b = (rw a, rw (a, b))
+  deque-going a b = (rw a, rw (a, b))
 
-  pub early-nothing : isMoved (m .outcome) ≡ false → (c ≡ anchorAfter c m) × (r ≡ callAfter r m)
+  pub deque-nothing : isMoved (m .outcome) ≡ false → (c ≡ anchorAfter c m) × (r ≡ callAfter r m)
   unfolding anchorAfter callAfter
-  early-nothing a = (rw a, rw a)
+  deque-nothing a = (rw a, rw a)
 
   -- Beyond 10, besides.
   pub rest-end : isMoved (m .outcome) ≡ true → endsCall (m .outcome) ≡ true
@@ -103,27 +98,27 @@ module _ (q : Tables) (r : Record) (m : Transition) (lefts rights labels marks n
         ap (λ (c : Control). leaves c r) (sym (ap (λ (t : Tables). t .control) (k .0)))
         ∙ ap (leaves (m .control)) (sym (k .1)) ∙ e
 
-    kept-stored : leaves (headAfter (anchorAfter (q .control) m) m) (ownAfter (callAfter r m) m) ≡ a
+    kept-stored : leaves (anchorAfter (headAfter (q .control) m) m) (callAfter (ownAfter r m) m) ≡ a
     unfolding anchorAfter callAfter headAfter ownAfter
     kept-stored =
         split (isMoved (m .outcome))
         (λ a. split (endsCall (m .outcome)) (λ b. rw (a, b) (over b)) (λ b. rw (a, b) (going b)))
         (λ a. rw a (unmoved a))
 
-    kept-early : r .call .place ≤ 10 → leaves (anchorAfter (q .control) m) (callAfter r m) ≡ a
+    kept-deque : r .call .place ≤ 10 → leaves (anchorAfter (q .control) m) (callAfter r m) ≡ a
     unfolding anchorAfter callAfter
-    kept-early early =
-        let head = same-head (m .control) (q .control) (kept .head early) in
+    kept-deque inDeque =
+        let head = same-head (m .control) (q .control) (kept .head inDeque) in
         split (isMoved (m .outcome))
         (λ a. split (endsCall (m .outcome))
         (λ b. rw (a, b, head) (over b))
-        (λ b. let k = kept .keeps b in rw (a, b, head, same-call (m .task) (r .call) (k .own early) (k .label early)) (going b)))
+        (λ b. let k = kept .keeps b in rw (a, b, head, same-call (m .task) (r .call) (k .own inDeque) (k .label inDeque)) (going b)))
         (λ a. rw a (unmoved a))
 
-  pub moved-stored : leaves (m .control) (gone (m .task)) ≡ moveOn q r
-      → leaves (headAfter (anchorAfter (q .control) m) m) (ownAfter (callAfter r m) m) ≡ moveOn q r
-  moved-stored e = kept-stored (moveOn q r) (moved-on q r) e
+  pub moved-stored : leaves (m .control) (gone (m .task)) ≡ stepAdmitted q r
+      → leaves (anchorAfter (headAfter (q .control) m) m) (callAfter (ownAfter r m) m) ≡ stepAdmitted q r
+  moved-stored e = kept-stored (stepAdmitted q r) (admitted-unchanged q r) e
 
-  pub early-stored : leaves (m .control) (gone (m .task)) ≡ moveOn q r → r .call .place ≤ 10
-      → leaves (anchorAfter (q .control) m) (callAfter r m) ≡ moveOn q r
-  early-stored e = kept-early (moveOn q r) (moved-on q r) e
+  pub deque-stored : leaves (m .control) (gone (m .task)) ≡ stepAdmitted q r → r .call .place ≤ 10
+      → leaves (anchorAfter (q .control) m) (callAfter r m) ≡ stepAdmitted q r
+  deque-stored e = kept-deque (stepAdmitted q r) (admitted-unchanged q r) e

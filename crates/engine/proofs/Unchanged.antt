@@ -1,26 +1,18 @@
 -- What a step never changes: control's tasks, slots and way of opening, at places 1 to 10 its head; and, unless it ends the call, the record's
 -- kind and side, at 1 to 10 its own slot and label. A step that ends the call leaves the record all zero, a refused one all as it was.
-use mathlib.Core.Path.{_≡_, refl, sym, ap, subst, _∙_}
-use mathlib.Core.Bool.{Bool, true, false, _||_, cond}
-use mathlib.Core.List.{List, [], _∷_}
+use mathlib.Core.{Path.{_≡_, refl, sym, ap, subst, _∙_}, Bool.{Bool, true, false, _||_, cond}, List.{List, [], _∷_}}
 use Prim.Native.Nat.{ℕ, zero, suc, _≤_}
 use native.Mathlib.Omega.{arith}
-use lib.Dec.{eqb, leb}
-use lib.ListN.{getD}
+use lib.{Dec.{eqb, leb}, ListN.getD}
 use borrow.Author.Tests.{leb-true, eqb-true, eqb-false, ne-eqb}
-use Rattle.model.specs.declared.{Call.Call, Record.Record, Entry.Entry}
-use Rattle.model.specs.declared.Outcome.the-variants.{Refused, Moved}
-use Rattle.model.specs.Tables.{Tables, idle}
-use Rattle.model.specs.Places.{Touch, nothing, setAnchor, setLink, clearMark, takeSlot, setNext, setHead, Move, wordFound, apply}
-use Rattle.model.specs.Route.{pushRoute, popRoute, route, onward, answer, goes}
-use Rattle.model.specs.Refusals.{stepSound}
-use Rattle.model.specs.Calls.{Acted, finish}
-use Rattle.places.specs.Arm.{stepAt}
-use Rattle.engine.specs.MoveOn.{moveOn}
-use Rattle.model.specs.Ends.{endsCall, isMoved}
-use Rattle.engine.proofs.ByPlace.{Keeps, Moves, heads, itself, moves}
+use Rattle.model.specs.declared.{Call.Call, Record.Record, Entry.Entry, Outcome.the-variants.{Refused, Moved}}
+use Rattle.model.specs.{Tables.{Tables, idle}, Places.wordFound, Refusals.stepSound, Calls.{Acted, finish}}
+use Rattle.model.specs.Places.{Touch, nothing, setAnchor, setLink, clearMark, takeSlot, setNext, setHead, Move, apply}
+use Rattle.model.specs.{Route.{pushRoute, popRoute, route, onward, answer, goes}, Ends.{endsCall, isMoved}}
 use Rattle.model.proofs.tests.Truth.{split}
-use Rattle.engine.proofs.InParts.{here, fault, placed}
+use Rattle.places.specs.Arm.{stepAt}
+use Rattle.engine.specs.StepAdmitted.{stepAdmitted}
+use Rattle.engine.proofs.{ByPlace.{Keeps, Moves, heads, itself, moves}, InParts.{here, fault, placed}}
 
 clash : false ≡ true → ⊥
 clash h = let z : _≡_ {A = ℕ} 0 1 = cc in omega arith
@@ -89,9 +81,10 @@ touches (setHead w) q = record { tasks = refl; slots = refl; pooled = refl; head
 
 -- Where the route leads on to n, a record goes on with the fields that it kept, or the answer ends the call.
 module _ (n : ℕ) (e : Entry) where
-  stays : (early : Type 0) (r t : Call) → Keeps early r t → known n ≡ true → (n ≡ 20 → ⊥) → endsCall (Moved (answer n e)) ≡ false → Keeps early r (goes t n)
+  stays : (inDeque : Type 0) (r t : Call) → Keeps inDeque r t → known n ≡ true → (n ≡ 20 → ⊥) → endsCall (Moved (answer n e)) ≡ false
+      → Keeps inDeque r (goes t n)
   unfolding goes answer known
-  stays early r t k ok live h =
+  stays inDeque r t k ok live h =
       split (leb n 17)
       (λ low. rw low (record { kind = k .kind; side = k .side; own = k .own; label = k .label }))
       (λ high. split (eqb n 21)
@@ -142,7 +135,7 @@ module _ (q : Tables) (r : Record) where
         tasks = t .tasks;
         slots = t .slots;
         pooled = t .pooled;
-        head = λ early. t .head (k .1 early);
+        head = λ inDeque. t .head (k .1 inDeque);
         keeps = λ h. stays _ _ _ (r .call) (m .task) (k .0) (onward-known n f (route-known (r .call .place) (r .call .kind) (m .branch))) (onward-live n f) h;
         zero = λ h. leaves _ _ (m .task) h;
         still = λ h. absurd (clash (sym h));
@@ -172,6 +165,6 @@ module _ (q : Tables) (r : Record) where
       (λ _. finishes _ (moves (q .control) (r .call) (wordFound q (r .call)) (range .0)))
       (same _))
 
-  pub moved-on : Unchanged q r (moveOn q r)
-  unfolding moveOn
-  moved-on = whichever (eqb (fault q r) 0) _ _ (λ e. at-its-place (eqb-true _ _ e)) (same _)
+  pub admitted-unchanged : Unchanged q r (stepAdmitted q r)
+  unfolding stepAdmitted
+  admitted-unchanged = whichever (eqb (fault q r) 0) _ _ (λ e. at-its-place (eqb-true _ _ e)) (same _)

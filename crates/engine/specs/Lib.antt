@@ -1,2 +1,2 @@
-pub mod MoveOn
+pub mod StepAdmitted
 pub mod Stored

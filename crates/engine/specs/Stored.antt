@@ -1,10 +1,8 @@
 -- What is stored of control and record after a step: no more than it may have changed. At places 1 to 10 that is Anchor, and of a call all but
 -- kind, side, own slot and label; beyond 10 the head, own slot and label besides.
 use mathlib.Core.Bool.{cond}
-use Rattle.model.specs.declared.{Control.Control, Call.Call, Record.Record, Transition.Transition}
-use Rattle.model.specs.Tables.{idle, counting, ofKind, withCall, withOwn, withWords}
-use Rattle.model.specs.Route.{counted}
-use Rattle.model.specs.Ends.{endsCall, isMoved}
+use Rattle.model.specs.{declared.{Control.Control, Call.Call, Record.Record, Transition.Transition}, Route.counted}
+use Rattle.model.specs.{Tables.{idle, counting, ofKind, withCall, withOwn, withWords}, Ends.{endsCall, isMoved}}
 
 -- Control takes the Anchor of another, a call all that a step at 1 to 10 may have changed.
 abbrev pub anchorMoved : Control → Control → Control
@@ -29,7 +27,7 @@ callAfter r m =
     let call : Call = cond (endsCall (m .outcome)) idle (callMoved (r .call) (m .task)) in
     cond (isMoved (m .outcome)) (counting call (counted (r .retries) (m .failed))) r
 
--- Beyond 10, besides. A call that ended stays all zero.
+-- Beyond 10, besides and first. Of a call that ends, which is then all zero, nothing.
 unfoldable pub headAfter : Control → Transition → Control
 headAfter c m = cond (isMoved (m .outcome)) (headMoved c (m .control)) c
 

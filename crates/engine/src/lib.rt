@@ -3,8 +3,7 @@ use model::Answer;
 use model::Outcome;
 use model::Reply;
 ghost use mathlib.Core.Path.{_≡_};
-ghost use Rattle.model.specs.Calls.{replyOf};
-ghost use Rattle.model.specs.Ends.{answerEnds, endsCall, isMoved, isRunning};
+ghost use Rattle.model.specs.{Calls.replyOf, Ends.{answerEnds, endsCall, isMoved, isRunning}};
 
 fn answer_ends(a: Answer) -> bool
     ensures { λ b. ⌜ b ≡ answerEnds a ⌝ }

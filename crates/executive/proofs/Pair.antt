@@ -1,13 +1,10 @@
 -- A list of two, by its entries; and what is done over rows, or with a record lent alone, as the meaning has it.
-use mathlib.Core.Path.{_≡_, refl, ap, _∙_}
-use mathlib.Core.List.{List, [], _∷_}
+use mathlib.Core.{Path.{_≡_, refl, ap, _∙_}, List.{List, [], _∷_}}
 use Prim.Native.Nat.{ℕ, zero, suc, _<_}
 use native.Mathlib.Omega.{arith}
 use lib.ListN.{length, getD, set}
-use Rattle.model.specs.declared.{Control.Control, Record.Record, Outcome.Outcome, Op.Op}
-use Rattle.model.specs.Tables.{Queue, queueOf, unused}
-use Rattle.model.specs.Calls.{Acted, Done, act, back, stepLent}
-use Rattle.model.specs.LentSteps.{takeTurn, lent}
+use Rattle.model.specs.{declared.{Control.Control, Record.Record, Outcome.Outcome, Op.Op}, LentSteps.{takeTurn, lent}}
+use Rattle.model.specs.{Tables.{Queue, queueOf, unused}, Calls.{Acted, Done, act, back, stepLent}}
 use Rattle.rows.specs.Rows.{controlOf, recordOf, recordsOf, queueIn}
 
 pub pair-of : (l : List Record) (d e : Record) → length l ≡ 2 → getD l 0 d ∷ getD l 1 e ∷ [] ≡ l

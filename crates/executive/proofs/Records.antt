@@ -1,10 +1,8 @@
 -- The records of the executive as one machine value: an array of structs, by itself and as a field.
-use mathlib.Core.Path.{_≡_, refl, ap, _∙_}
-use mathlib.Core.List.{List, [], _∷_, map}
+use mathlib.Core.{Path.{_≡_, refl, ap, _∙_}, List.{List, [], _∷_, map}}
 use lib.{Dec.lit<, ListN.length-map}
 use mir.Val.{Val}
-use denote.{RattleType.RattleType, Shadow.shadow, Slice.Room}
-use denote.Laws.{Is, Tells}
+use denote.{RattleType.RattleType, Shadow.shadow, Slice.Room, Laws.{Is, Tells}}
 use denote.Array.{Array, arrayVal, array-tells, each}
 use denote.Struct.Laws as LL
 use Rattle.model.specs.declared.Record.{Record}

@@ -7,11 +7,8 @@ use model::Outcome;
 use model::Record;
 use rows::op;
 ghost use mathlib.Core.Path.{_≡_};
-ghost use Rattle.model.specs.declared.Op.the-variants.{Step};
+ghost use Rattle.model.specs.{declared.Op.the-variants.Step, Tables.unused, Calls.act, LentSteps.{takeTurn, lent}};
 ghost use lib.ListN.{getD, set};
-ghost use Rattle.model.specs.Tables.{unused};
-ghost use Rattle.model.specs.Calls.{act};
-ghost use Rattle.model.specs.LentSteps.{takeTurn, lent};
 ghost use Rattle.rows.specs.Rows.{recordOf, recordsOf};
 ghost use Rattle.executive.specs.Held.{queueIn, doneOf};
 

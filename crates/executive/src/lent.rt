@@ -4,8 +4,7 @@ use model::Outcome;
 use model::Record;
 use rows::value::Stepped;
 ghost use mathlib.Core.Path.{_≡_};
-ghost use Rattle.model.specs.declared.Op.the-variants.{Step};
-ghost use Rattle.model.specs.Tables.{tablesOf, queueOf};
+ghost use Rattle.model.specs.{declared.Op.the-variants.Step, Tables.{tablesOf, queueOf}};
 ghost use Rattle.model.specs.Calls.{Acted, Done, act, stepLent};
 
 /// The tasks of the executive.

@@ -1,20 +1,11 @@
 -- The answer: refused before the walk, by the walk, or found.
-use mathlib.Core.Path.{_≡_, refl, sym, ap, _∙_}
-use mathlib.Core.Bool.{Bool, true, false, not}
-use mathlib.Core.List.{List, [], _∷_}
+use mathlib.Core.{Path.{_≡_, refl, sym, _∙_}, Bool.{Bool, true, false, not}, List.{List, [], _∷_}}
 use Prim.Native.Nat.{ℕ, _≤_}
 use native.Mathlib.Omega.{arith}
-use lib.Dec.{ltb}
-use lib.ListN.{length}
+use lib.{Dec.ltb, ListN.length}
 use borrow.Author.Tests.{ltb-false, ne-eqb}
-use Rattle.model.specs.Tables.{Tables}
-use Rattle.model.specs.Sound.{controlSound, from1, rowsFit}
-use Rattle.model.specs.Walk.{Walk, contents, isBroken, entries, broken}
+use Rattle.model.specs.{Tables.Tables, Sound.{controlSound, rowsFit}, Walk.{Walk, contents, isBroken, entries, broken}}
 use Rattle.model.specs.Refusals.{rule, first}
-use Rattle.model.proofs.tests.Truth.{split}
-use Rattle.walk.specs.declared.Way.{Way}
-use Rattle.walk.specs.Ways.{wayOf, noneOn, ahead, turnedBack}
-use Rattle.walk.proofs.Along.{nowhere, waits, off}
 use Rattle.find_model.specs.Find.{find, findRefusal, refused}
 use Rattle.find.specs.Looked.{foundIn, refusalBefore}
 
@@ -33,32 +24,25 @@ one-applies true false false d h = refl
 one-applies true true c d h = refl
 one-applies false b c d h = refl
 
--- Where an end is a slot, what waits is what the walk meets, turned to run from left to right.
-pub on-way : (q : Tables) (w : Way) → w ≡ wayOf (q .control) → noneOn w ≡ false
-    → contents q ≡ turnedBack w (ahead w (q .lefts) (q .rights) (q .labels))
-on-way q w e y =
-    split (from1 (w .slots) (w .first)) (λ z. waits q w e z)
-    (λ z. off q w e z y ∙ sym (ap (turnedBack w) (nowhere w (q .lefts) (q .rights) (q .labels) (w .slots) (w .first) z)))
-
-module _ (q : Tables) (asked : List ℕ) where
+module _ (q : Tables) (wanted : List ℕ) where
   abbrev pub why : ℕ
-  why = refusalBefore (controlSound (q .control)) (ltb 32 (length asked)) (rowsFit false (q .control .slots) q)
+  why = refusalBefore (controlSound (q .control)) (ltb 32 (length wanted)) (rowsFit false (q .control .slots) q)
 
-  pub turned-away : (n : ℕ) → n ≡ why → (n ≡ 0 → ⊥) → refused n ≡ find q asked
+  pub turned-away : (n : ℕ) → n ≡ why → (n ≡ 0 → ⊥) → refused n ≡ find q wanted
   unfolding find findRefusal
   turned-away n e h =
       let fits = rowsFit false (q .control .slots) q in
-      let r = one-applies (controlSound (q .control)) (ltb 32 (length asked)) fits (isBroken (contents q)) (λ z. h (e ∙ z)) ∙ sym e in
+      let r = one-applies (controlSound (q .control)) (ltb 32 (length wanted)) fits (isBroken (contents q)) (λ z. h (e ∙ z)) ∙ sym e in
       rw (r, ne-eqb n 0 h)
 
   module _ (n : ℕ) (e : n ≡ why) (z : n ≡ 0) where
-    passed : (controlSound (q .control) ≡ true) × (ltb 32 (length asked) ≡ false) × (rowsFit false (q .control .slots) q ≡ true)
+    passed : (controlSound (q .control) ≡ true) × (ltb 32 (length wanted) ≡ false) × (rowsFit false (q .control .slots) q ≡ true)
     passed = none-applies _ _ _ (sym e ∙ z)
 
-    pub few : length asked ≤ 32
-    few = ltb-false 32 (length asked) (passed .1)
+    pub few : length wanted ≤ 32
+    few = ltb-false 32 (length wanted) (passed .1)
 
-    pub finds : (v : Walk) → contents q ≡ v → foundIn v asked ≡ find q asked
+    pub finds : (v : Walk) → contents q ≡ v → foundIn v wanted ≡ find q wanted
     unfolding find findRefusal
     finds (entries l) e = rw (passed .0, passed .1, passed .2, e)
     finds broken e = rw (passed .0, passed .1, passed .2, e)

@@ -1,25 +1,18 @@
 -- The walk from either end finds the positions.
-use mathlib.Core.Path.{_≡_, refl, sym, ap, subst, _∙_}
-use mathlib.Core.Bool.{Bool, true, false, cond}
-use mathlib.Core.List.{List, [], _∷_, _++_, append-nil, reverse, map}
+use mathlib.Core.{Path.{_≡_, refl, sym, ap, subst, _∙_}, Bool.{Bool, true, false}}
+use mathlib.Core.List.{List, [], _∷_, _++_, append-nil, map}
 use Prim.Native.Nat.{ℕ, zero, suc, _+_, _<_, _≤_}
 use native.Mathlib.Omega.{arith}
 use lib.ListN.{length, getD, length-reverse, replicate, drop-of-length-le}
 use borrow.Author.Tests.{le-leb}
-use Rattle.model.specs.declared.Entry.{Entry}
-use Rattle.model.specs.Walk.{Walk, broken, entries}
+use Rattle.model.specs.{declared.Entry.Entry, Walk.{Walk, broken, entries}}
 use Rattle.table.specs.Zeroing.{zeroing}
-use Rattle.walk.specs.declared.Way.{Way}
-use Rattle.walk.specs.declared.Tally.the-variants.{Labels}
-use Rattle.walk.specs.Ways.{turnedBack}
+use Rattle.walk.specs.{declared.{Way.Way, Tally.the-variants.Labels}, Ways.turnedBack}
 use Rattle.walk.specs.Over.{Made, made, lost, each, over}
-use Rattle.find_model.specs.declared.FindReply.{FindReply}
-use Rattle.find_model.specs.Find.{found, refused}
-use Rattle.find_model.specs.Noting.{note, turned}
+use Rattle.find_model.specs.{declared.FindReply.FindReply, Find.{found, refused}, Noting.{note, turned}}
 use Rattle.find_model.proofs.Positions.{notes, from-left, from-right}
 use Rattle.find.specs.Looked.{Noted, noteOn, noted, turning, foundIn}
-use Rattle.find.proofs.Noted.{notes-beyond, notes-most}
-use Rattle.find.proofs.Turning.{turn-all}
+use Rattle.find.proofs.{Noted.{notes-beyond, notes-most}, Turning.turn-all}
 
 abbrev pub blank : List ℕ
 blank = replicate 32 0
@@ -32,28 +25,28 @@ zeros zero i = refl
 zeros (suc n) zero = refl
 zeros (suc n) (suc i) = zeros n i
 
-each-noted : (early : Bool) (asked : List ℕ) (k : ℕ) (ps : List ℕ) (l : List Entry)
-    → each (noteOn early asked) (with k ps) l ≡ with (k + length l) (notes early asked (k + 1) ps l)
-each-noted early asked k ps [] = let e : k ≡ k + 0 = omega arith in ap (λ (n : ℕ). with n ps) e
-each-noted early asked k ps (e ∷ l) =
+each-noted : (foremost : Bool) (wanted : List ℕ) (k : ℕ) (ps : List ℕ) (l : List Entry)
+    → each (noteOn foremost wanted) (with k ps) l ≡ with (k + length l) (notes foremost wanted (k + 1) ps l)
+each-noted foremost wanted k ps [] = let e : k ≡ k + 0 = omega arith in ap (λ (n : ℕ). with n ps) e
+each-noted foremost wanted k ps (e ∷ l) =
     let s : k + 1 + length l ≡ k + length (e ∷ l) = omega arith in
-    let qs = note early (e .label) (k + 1) asked ps in
-    each-noted early asked (k + 1) qs l ∙ ap (λ (n : ℕ). with n (notes early asked (k + 1 + 1) qs l)) s
+    let qs = note foremost (e .label) (k + 1) wanted ps in
+    each-noted foremost wanted (k + 1) qs l ∙ ap (λ (n : ℕ). with n (notes foremost wanted (k + 1 + 1) qs l)) s
 
 -- What came of the walk: its rows, and what it noted.
-module _ (early : Bool) (asked : List ℕ) (n : ℕ) (ps : List ℕ) where
+module _ (foremost : Bool) (wanted : List ℕ) (n : ℕ) (ps : List ℕ) where
   abbrev Came : Walk → Type 0
-  Came v = made (with n ps) ≡ over (noteOn early asked) (with 0 blank) v
+  Came v = made (with n ps) ≡ over (noteOn foremost wanted) (with 0 blank) v
 
   rows-are : (l : List Entry) → Came (entries l) → n ≡ length l
-  rows-are l e = let z : n ≡ 0 + length l = ap rows (e ∙ ap made (each-noted early asked 0 blank l)) in omega arith
+  rows-are l e = let z : n ≡ 0 + length l = ap rows (e ∙ ap made (each-noted foremost wanted 0 blank l)) in omega arith
     where
       rows : Made Noted → ℕ
       rows (made s) = s .count
       rows lost = 0
 
-  noted-are : (l : List Entry) → Came (entries l) → ps ≡ notes early asked 1 blank l
-  noted-are l e = ap positions (e ∙ ap made (each-noted early asked 0 blank l))
+  noted-are : (l : List Entry) → Came (entries l) → ps ≡ notes foremost wanted 1 blank l
+  noted-are l e = ap positions (e ∙ ap made (each-noted foremost wanted 0 blank l))
     where
       positions : Made Noted → List ℕ
       positions (made s) = s .positions
@@ -63,18 +56,18 @@ module _ (early : Bool) (asked : List ℕ) (n : ℕ) (ps : List ℕ) where
   pub within : (v : Walk) → Came v → (i : ℕ) → getD ps i 0 ≤ n
   within (entries l) e i =
       subst (λ (qs : List ℕ). getD qs i 0 ≤ n) (sym (noted-are l e))
-      (omega (arith, rows-are l e, notes-most early asked 0 blank l (λ j. omega (arith, zeros 32 j)) i))
+      (omega (arith, rows-are l e, notes-most foremost wanted 0 blank l (λ j. omega (arith, zeros 32 j)) i))
   within broken e i = absurd (let z : _≡_ {A = ℕ} 0 1 = cc in omega arith)
 
 -- Where nothing waits nothing is found, nor in a broken walk.
-pub none-found : (asked : List ℕ) → length asked ≤ 32 → refused 0 ≡ found [] asked
+pub none-found : (wanted : List ℕ) → length wanted ≤ 32 → refused 0 ≡ found [] wanted
 unfolding found
-none-found asked few = ap (λ (ps : List ℕ). record { code = 0; rows = 0; positions = ps }) (from-left asked few [])
+none-found wanted few = ap (λ (ps : List ℕ). record { code = 0; rows = 0; positions = ps }) (from-left wanted few [])
 
-pub nothing-found : (f : Noted → Entry → Noted) (s : Noted) (w : Way) (v : Walk) (asked : List ℕ) → lost ≡ over f s v
-    → refused 34 ≡ foundIn (turnedBack w v) asked
-nothing-found f s w (entries l) asked e = absurd (let z : _≡_ {A = ℕ} 0 1 = cc in omega arith)
-nothing-found f s w broken asked e = refl
+pub nothing-found : (f : Noted → Entry → Noted) (s : Noted) (w : Way) (v : Walk) (wanted : List ℕ) → lost ≡ over f s v
+    → refused 34 ≡ foundIn (turnedBack w v) wanted
+nothing-found f s w (entries l) wanted e = absurd (let z : _≡_ {A = ℕ} 0 1 = cc in omega arith)
+nothing-found f s w broken wanted e = refl
 
 pub blanked : (ps : List ℕ) → length ps ≡ 32 → zeroing 32 ps ≡ blank
 unfolding zeroing
@@ -82,29 +75,29 @@ blanked ps e =
     rw (le-leb 32 (length ps) (omega arith))
     (ap (λ (l : List ℕ). replicate 32 0 ++ l) (drop-of-length-le ps {i = 32} (omega arith)) ∙ append-nil (replicate 32 0))
 
-module _ (w : Way) (asked : List ℕ) (few : length asked ≤ 32) (n : ℕ) (ps : List ℕ) where
-  pub left-found : (v : Walk) → w .rightward ≡ true → noted (Labels n) ps ≡ over (noteOn (w .rightward) asked) (with 0 blank) v
-      → _≡_ {A = FindReply} (record { code = 0; rows = n; positions = ps }) (foundIn (turnedBack w v) asked)
+module _ (w : Way) (wanted : List ℕ) (few : length wanted ≤ 32) (n : ℕ) (ps : List ℕ) where
+  pub left-found : (v : Walk) → w .rightward ≡ true → noted (Labels n) ps ≡ over (noteOn (w .rightward) wanted) (with 0 blank) v
+      → _≡_ {A = FindReply} (record { code = 0; rows = n; positions = ps }) (foundIn (turnedBack w v) wanted)
   unfolding found
   left-found (entries l) z e =
       let e′ = rw z at e in
-      rw z (λ i. record { code = 0; rows = rows-are true asked n ps l e′ i; positions = (noted-are true asked n ps l e′ ∙ from-left asked few l) i })
+      rw z (λ i. record { code = 0; rows = rows-are true wanted n ps l e′ i; positions = (noted-are true wanted n ps l e′ ∙ from-left wanted few l) i })
   left-found broken z e = absurd (let y : _≡_ {A = ℕ} 0 1 = cc in omega arith)
 
-  pub right-found : (v : Walk) → w .rightward ≡ false → noted (Labels n) ps ≡ over (noteOn (w .rightward) asked) (with 0 blank) v
-      → _≡_ {A = FindReply} (record { code = 0; rows = n; positions = turning (turned n) (length asked) ps }) (foundIn (turnedBack w v) asked)
+  pub right-found : (v : Walk) → w .rightward ≡ false → noted (Labels n) ps ≡ over (noteOn (w .rightward) wanted) (with 0 blank) v
+      → _≡_ {A = FindReply} (record { code = 0; rows = n; positions = turning (turned n) (length wanted) ps }) (foundIn (turnedBack w v) wanted)
   unfolding found
   right-found (entries l) z e =
       let e′ = rw z at e in
-      let rows = rows-are false asked n ps l e′ in
-      let all = noted-are false asked n ps l e′ in
-      let beyond : (j : ℕ) → length asked ≤ j → j < length ps → turned n (getD ps j 0) ≡ getD ps j 0 = λ j h g. still all j h in
+      let rows = rows-are false wanted n ps l e′ in
+      let all = noted-are false wanted n ps l e′ in
+      let beyond : (j : ℕ) → length wanted ≤ j → j < length ps → turned n (getD ps j 0) ≡ getD ps j 0 = λ j h g. still all j h in
       rw z (λ i. record {
         code = 0;
         rows = (rows ∙ sym (length-reverse l)) i;
-        positions = (turn-all (turned n) (length asked) ps beyond ∙ (λ j. map (turned (rows j)) (all j)) ∙ from-right asked few l) i;
+        positions = (turn-all (turned n) (length wanted) ps beyond ∙ (λ j. map (turned (rows j)) (all j)) ∙ from-right wanted few l) i;
       })
     where
-      still : ps ≡ notes false asked 1 blank l → (j : ℕ) → length asked ≤ j → turned n (getD ps j 0) ≡ getD ps j 0
-      still all j h = rw (ap (λ (qs : List ℕ). getD qs j 0) all ∙ notes-beyond false asked 1 blank l j h ∙ zeros 32 j)
+      still : ps ≡ notes false wanted 1 blank l → (j : ℕ) → length wanted ≤ j → turned n (getD ps j 0) ≡ getD ps j 0
+      still all j h = rw (ap (λ (qs : List ℕ). getD qs j 0) all ∙ notes-beyond false wanted 1 blank l j h ∙ zeros 32 j)
   right-found broken z e = absurd (let y : _≡_ {A = ℕ} 0 1 = cc in omega arith)

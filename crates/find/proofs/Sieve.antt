@@ -1,15 +1,10 @@
 -- The sieve one label further; and a label that does not pass it is none of those asked for.
-use mathlib.Core.Path.{_≡_, sym, ap, subst, _∙_}
-use mathlib.Core.Bool.{true, false}
-use mathlib.Core.List.{List}
-use mathlib.Core.Logic.{_≢_}
+use mathlib.Core.{Path.{_≡_, sym, ap, subst, _∙_}, Bool.{true, false}, List.List, Logic._≢_}
 use Prim.Native.Nat.{ℕ, _+_, _/_, _%_, _<_}
-use native.Mathlib.Decide.{ℕ-discrete}
-use native.Mathlib.Omega.{arith}
+use native.Mathlib.{Decide.ℕ-discrete, Omega.arith}
 use lib.ListN.{length, getD, length-set}
 use Rattle.model.specs.Tables.{marked, withMark}
-use Rattle.model.proofs.tests.Truth.{not-both}
-use Rattle.model.proofs.bridge.Marks.{marked-same, marked-other}
+use Rattle.model.proofs.{tests.Truth.not-both, bridge.Marks.{marked-same, marked-other}}
 use Rattle.find.specs.Sieve.{Sifted}
 
 -- A mark that is set stays set when another is.
@@ -22,22 +17,22 @@ stays-set ws n m h e = go (ℕ-discrete m n)
 
 -- The labels below i pass, and label i's mark is set.
 abbrev pub Below : List ℕ → List ℕ → ℕ → Type 0
-Below asked sieve i = (length sieve ≡ 16) × ((j : ℕ) → j < i → marked sieve (getD asked j 0 % 1024) ≡ true)
+Below wanted sieve i = (length sieve ≡ 16) × ((j : ℕ) → j < i → marked sieve (getD wanted j 0 % 1024) ≡ true)
 
-pub one-more : (asked sieve after : List ℕ) (i : ℕ) → Below asked sieve i → after ≡ withMark sieve (getD asked i 0 % 1024) 1 → Below asked after (i + 1)
-one-more asked sieve after i h e =
-    let n : ℕ = getD asked i 0 % 1024 in
+pub one-more : (wanted sieve after : List ℕ) (i : ℕ) → Below wanted sieve i → after ≡ withMark sieve (getD wanted i 0 % 1024) 1 → Below wanted after (i + 1)
+one-more wanted sieve after i h e =
+    let n : ℕ = getD wanted i 0 % 1024 in
     let within : n / 64 < length sieve = omega (arith, h .0) in
-    subst (λ (s : List ℕ). Below asked s (i + 1)) (sym e)
+    subst (λ (s : List ℕ). Below wanted s (i + 1)) (sym e)
     (length-set sieve (n / 64) _ ∙ h .0, λ j g. go within j (ℕ-discrete j i) g)
   where
-    go : getD asked i 0 % 1024 / 64 < length sieve → (j : ℕ) → Dec (j ≡ i) → j < i + 1
-        → marked (withMark sieve (getD asked i 0 % 1024) 1) (getD asked j 0 % 1024) ≡ true
+    go : getD wanted i 0 % 1024 / 64 < length sieve → (j : ℕ) → Dec (j ≡ i) → j < i + 1
+        → marked (withMark sieve (getD wanted i 0 % 1024) 1) (getD wanted j 0 % 1024) ≡ true
     go w j (yes z) g =
-        ap (λ (k : ℕ). marked (withMark sieve (getD asked i 0 % 1024) 1) (getD asked k 0 % 1024)) z
-        ∙ marked-same sieve (getD asked i 0 % 1024) 1 (omega arith) w
-    go w j (no z) g = stays-set sieve (getD asked i 0 % 1024) (getD asked j 0 % 1024) w (h .1 j (omega arith))
+        ap (λ (k : ℕ). marked (withMark sieve (getD wanted i 0 % 1024) 1) (getD wanted k 0 % 1024)) z
+        ∙ marked-same sieve (getD wanted i 0 % 1024) 1 (omega arith) w
+    go w j (no z) g = stays-set sieve (getD wanted i 0 % 1024) (getD wanted j 0 % 1024) w (h .1 j (omega arith))
 
 -- A label whose mark is clear is none of them.
-pub not-asked : (asked sieve : List ℕ) (y : ℕ) → Sifted asked sieve → marked sieve (y % 1024) ≡ false → (i : ℕ) → i < length asked → getD asked i 0 ≢ y
-not-asked asked sieve y s f i h e = not-both (ap (λ (x : ℕ). marked sieve (x % 1024)) (sym e) ∙ s .passes i h) f
+pub not-wanted : (wanted sieve : List ℕ) (y : ℕ) → Sifted wanted sieve → marked sieve (y % 1024) ≡ false → (i : ℕ) → i < length wanted → getD wanted i 0 ≢ y
+not-wanted wanted sieve y s f i h e = not-both (ap (λ (x : ℕ). marked sieve (x % 1024)) (sym e) ∙ s .passes i h) f

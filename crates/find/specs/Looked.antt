@@ -1,20 +1,10 @@
 -- What a walk notes and finds.
-use mathlib.Core.Path.{_≡_}
-use mathlib.Core.Bool.{Bool, true, not}
-use mathlib.Core.List.{List, [], _∷_}
+use mathlib.Core.{Path._≡_, Bool.{Bool, true, not}, List.{List, [], _∷_}}
 use Prim.Native.Nat.{ℕ, zero, suc, _+_, _≤_}
 use lib.ListN.{length}
-use Rattle.model.specs.declared.Entry.{Entry}
-use Rattle.model.specs.Sound.{from1}
-use Rattle.model.specs.Walk.{Walk, entries, broken}
-use Rattle.model.specs.Refusals.{rule, first}
-use Rattle.walk.specs.declared.Tally.{Tally}
-use Rattle.walk.specs.declared.Tally.the-variants.{Broken, Labels}
-use Rattle.walk.specs.declared.Way.{Way}
-use Rattle.walk.specs.Over.{Made, made, lost}
-use Rattle.find_model.specs.declared.FindReply.{FindReply}
-use Rattle.find_model.specs.Find.{found, refused}
-use Rattle.find_model.specs.Noting.{note}
+use Rattle.model.specs.{declared.Entry.Entry, Sound.from1, Walk.{Walk, entries, broken}, Refusals.{rule, first}}
+use Rattle.walk.specs.{declared.{Tally.{Tally, the-variants.{Broken, Labels}}, Way.Way}, Over.{Made, made, lost}}
+use Rattle.find_model.specs.{declared.FindReply.FindReply, Find.{found, refused}, Noting.note}
 
 -- The slots met, and the positions noted.
 pub record Noted : Type 0 where
@@ -22,17 +12,17 @@ pub record Noted : Type 0 where
   pub positions : List ℕ
 
 abbrev pub noteOn : Bool → List ℕ → Noted → Entry → Noted
-noteOn early asked s e = record { count = s .count + 1; positions = note early (e .label) (s .count + 1) asked (s .positions) }
+noteOn foremost wanted s e = record { count = s .count + 1; positions = note foremost (e .label) (s .count + 1) wanted (s .positions) }
 
 abbrev pub noted : Tally → List ℕ → Made Noted
 noted Broken ps = lost
 noted (Labels n) ps = made (record { count = n; positions = ps })
 
 -- What the walk relies on.
-pub record Looks (w : Way) (asked sieve positions : List ℕ) : Type 0 where
+pub record Looks (w : Way) (wanted sieve positions : List ℕ) : Type 0 where
   pub at : from1 (w .slots) (w .first) ≡ true
   pub sieve-size : length sieve ≡ 16
-  pub room : length asked ≤ length positions
+  pub room : length wanted ≤ length positions
 
 -- A table of which the first i entries are changed.
 abbrev pub turning : (ℕ → ℕ) → ℕ → List ℕ → List ℕ
@@ -42,8 +32,8 @@ turning f (suc i) (x ∷ l) = f x ∷ turning f i l
 
 -- What is found in a walk.
 abbrev pub foundIn : Walk → List ℕ → FindReply
-foundIn (entries l) asked = found l asked
-foundIn broken asked = refused 34
+foundIn (entries l) wanted = found l wanted
+foundIn broken wanted = refused 34
 
 -- The refusals before the walk, over tests already made.
 unfoldable pub refusalBefore : Bool → Bool → Bool → ℕ

@@ -2,21 +2,17 @@
 use find_model::FindReply;
 use model::Control;
 use sound::Lengths;
+use walk::Beginning;
+use walk::Led;
 use walk::Tally;
 use walk::Way;
-ghost use mathlib.Core.Path.{_≡_};
-ghost use mathlib.Core.Bool.{false, _||_};
-ghost use mathlib.Core.List.{List};
+ghost use mathlib.Core.{Path._≡_, Bool.{true, false, _||_}, List.List};
 ghost use Prim.Native.Nat.{ℕ, _+_, _%_, _<_, _≤_};
-ghost use lib.Dec.{leb, ltb};
-ghost use lib.ListN.{length, getD, set, replicate};
-ghost use Rattle.model.specs.Tables.{tablesOf, marked};
-ghost use Rattle.model.specs.Sound.{controlSound, rowsFit};
+ghost use lib.{Dec.{leb, ltb}, ListN.{length, getD, set, replicate}};
+ghost use Rattle.model.specs.{Tables.{tablesOf, marked}, Sound.{controlSound, from1, rowsFit}};
 ghost use Rattle.rows.specs.Rows.{controlOf};
-ghost use Rattle.walk.specs.Over.{over};
-ghost use Rattle.walk.specs.Ways.{ahead, turnedBack};
-ghost use Rattle.find_model.specs.Find.{find};
-ghost use Rattle.find_model.specs.Noting.{pick, note, turned};
+ghost use Rattle.walk.specs.{Over.over, Ways.{ahead, turnedBack}};
+ghost use Rattle.find_model.specs.{Find.find, Noting.{pick, note, turned}};
 ghost use Rattle.find.specs.Sieve.{Sifted, Ready};
 ghost use Rattle.find.specs.Looked.{Looks, noted, noteOn, turning, foundIn, refusalBefore};
 
@@ -27,40 +23,40 @@ fn wide(x: u32) -> u64
 }
 
 /// Marks the labels asked for, modulo 1,024: a label whose mark is clear is none of them.
-fn sift(asked: &[u32], sieve: &mut [u64])
+fn sift(wanted: &[u32], sieve: &mut [u64])
     requires { ⌜ length (now sieve) ≡ 16 ⌝ }
-    ensures { λ _. ⌜ Sifted (now (asked .entry)) (now (sieve .exit)) ⌝ }
+    ensures { λ _. ⌜ Sifted (now (wanted .entry)) (now (sieve .exit)) ⌝ }
 {
     let mut i = 0;
-    while i < asked.len() {
-        table::set_mark(sieve, wide(asked[i]) % 1024);
+    while i < wanted.len() {
+        table::set_mark(sieve, wide(wanted[i]) % 1024);
         i += 1;
     }
 }
 
 /// Notes the k-th slot met, which holds y, at i for label x.
-fn put(early: bool, x: u32, y: u32, k: u64, i: usize, positions: &mut [u64])
+fn put(foremost: bool, x: u32, y: u32, k: u64, i: usize, positions: &mut [u64])
     requires { ⌜ i < length (now positions) ⌝ }
     ensures { λ _.
-        ⌜ now (positions .exit) ≡ set (now (positions .entry)) i (pick early x y k (getD (now (positions .entry)) i 0)) ⌝ }
+        ⌜ now (positions .exit) ≡ set (now (positions .entry)) i (pick foremost x y k (getD (now (positions .entry)) i 0)) ⌝ }
 {
     if y != x {
         return;
     }
-    if early & (positions[i] != 0) {
+    if foremost & (positions[i] != 0) {
         return;
     }
     positions[i] = k;
 }
 
 /// The same for each label asked for.
-fn note(early: bool, y: u32, k: u64, asked: &[u32], positions: &mut [u64])
-    requires { ⌜ length (now asked) ≤ length (now positions) ⌝ }
-    ensures { λ _. ⌜ now (positions .exit) ≡ note early y k (now (asked .entry)) (now (positions .entry)) ⌝ }
+fn note(foremost: bool, y: u32, k: u64, wanted: &[u32], positions: &mut [u64])
+    requires { ⌜ length (now wanted) ≤ length (now positions) ⌝ }
+    ensures { λ _. ⌜ now (positions .exit) ≡ note foremost y k (now (wanted .entry)) (now (positions .entry)) ⌝ }
 {
     let mut i = 0;
-    while i < asked.len() {
-        put(early, asked[i], y, k, i, positions);
+    while i < wanted.len() {
+        put(foremost, wanted[i], y, k, i, positions);
         i += 1;
     }
 }
@@ -69,12 +65,12 @@ fn note(early: bool, y: u32, k: u64, asked: &[u32], positions: &mut [u64])
 const FEW: u64 = 4;
 
 /// Sifts when n slots were met and more are to come.
-fn ready(n: u64, asked: &[u32], sieve: &mut [u64])
-    requires { ⌜ Ready n (now asked) (now sieve) ⌝ }
-    ensures { λ _. ⌜ Ready (n + 1) (now (asked .entry)) (now (sieve .exit)) ⌝ }
+fn ready(n: u64, wanted: &[u32], sieve: &mut [u64])
+    requires { ⌜ Ready n (now wanted) (now sieve) ⌝ }
+    ensures { λ _. ⌜ Ready (n + 1) (now (wanted .entry)) (now (sieve .exit)) ⌝ }
 {
     if n == FEW {
-        sift(asked, sieve);
+        sift(wanted, sieve);
     }
 }
 
@@ -89,12 +85,12 @@ fn passes(y: u32, k: u64, sieve: &[u64]) -> bool
 }
 
 /// Notes the k-th slot met, beyond the first few at the cost of one mark for a label that was not asked for.
-fn meet(early: bool, y: u32, k: u64, asked: &[u32], sieve: &[u64], positions: &mut [u64])
-    requires { ⌜ Ready k (now asked) (now sieve) × (length (now asked) ≤ length (now positions)) ⌝ }
-    ensures { λ _. ⌜ now (positions .exit) ≡ note early y k (now (asked .entry)) (now (positions .entry)) ⌝ }
+fn meet(foremost: bool, y: u32, k: u64, wanted: &[u32], sieve: &[u64], positions: &mut [u64])
+    requires { ⌜ Ready k (now wanted) (now sieve) × (length (now wanted) ≤ length (now positions)) ⌝ }
+    ensures { λ _. ⌜ now (positions .exit) ≡ note foremost y k (now (wanted .entry)) (now (positions .entry)) ⌝ }
 {
     if passes(y, k, sieve) {
-        note(early, y, k, asked, positions);
+        note(foremost, y, k, wanted, positions);
     }
 }
 
@@ -104,29 +100,34 @@ fn look(
     lefts: &[u64],
     rights: &[u64],
     labels: &[u32],
-    asked: &[u32],
+    wanted: &[u32],
     sieve: &mut [u64],
     positions: &mut [u64],
 ) -> Tally
-    requires { ⌜ Looks w (now asked) (now sieve) (now positions) ⌝ }
+    requires { ⌜ Looks w (now wanted) (now sieve) (now positions) ⌝ }
     ensures { λ r.
-        ⌜ noted r (now (positions .exit)) ≡ over (noteOn (w .rightward) (now (asked .entry)))
+        ⌜ noted r (now (positions .exit)) ≡ over (noteOn (w .rightward) (now (wanted .entry)))
         (record { count = 0; positions = now (positions .entry) })
         (ahead w (now (lefts .entry)) (now (rights .entry)) (now (labels .entry))) ⌝ }
 {
     let mut n: u64 = 0;
     let mut x = w.first;
     while n < w.slots {
-        ready(n, asked, sieve);
+        ready(n, wanted, sieve);
         n += 1;
         let label = table::label_at(labels, x);
-        meet(w.rightward, label, n, asked, sieve, positions);
-        if x == w.last {
-            return Tally::Labels(n);
-        }
-        x = walk::leads(w, lefts, rights, x);
-        if x == 0 {
-            return Tally::Broken;
+        meet(w.rightward, label, n, wanted, sieve, positions);
+        let next = walk::leads(w, lefts, rights, x);
+        match next {
+            Led::Last => {
+                return Tally::Labels(n);
+            }
+            Led::Broken => {
+                return Tally::Broken;
+            }
+            Led::Slot(y) => {
+                x = y;
+            }
         }
     }
     Tally::Broken
@@ -155,14 +156,14 @@ fn turn(rows: u64, n: usize, positions: &mut [u64])
 /// 34 for control and Anchor, 45, 12. No next table is lent, so none counts.
 fn refusal(
     c: Control,
-    asked: &[u32],
+    wanted: &[u32],
     lefts: &[u64],
     rights: &[u64],
     labels: &[u32],
     marks: &[u64],
 ) -> u32
     ensures { λ n.
-        ⌜ ((next : List ℕ) → n ≡ refusalBefore (controlSound c) (ltb 32 (length (now (asked .entry)))) (rowsFit false (c .slots)
+        ⌜ ((next : List ℕ) → n ≡ refusalBefore (controlSound c) (ltb 32 (length (now (wanted .entry)))) (rowsFit false (c .slots)
         (tablesOf c (now (lefts .entry)) (now (rights .entry)) (now (labels .entry)) (now (marks .entry)) next))) ⌝ }
 {
     let t = Lengths {
@@ -176,7 +177,7 @@ fn refusal(
     if !sound::control_sound(c) {
         return 34;
     }
-    if 32 < asked.len() {
+    if 32 < wanted.len() {
         return 45;
     }
     if !sound::rows_fit(false, c.slots, t) {
@@ -198,25 +199,22 @@ fn search(
     lefts: &[u64],
     rights: &[u64],
     labels: &[u32],
-    asked: &[u32],
+    wanted: &[u32],
     positions: &mut [u64],
 ) -> Sought
-    requires { ⌜ (length (now asked) ≤ 32) × (now positions ≡ replicate 32 0) ⌝ }
+    requires { ⌜ (length (now wanted) ≤ 32) × ((now positions ≡ replicate 32 0) × (from1 (w .slots) (w .first) ≡ true)) ⌝ }
     ensures { λ r.
         ⌜ _≡_ {A = FindReply} (record { code = r .code; rows = r .rows; positions = now (positions .exit) })
-        (foundIn (turnedBack w (ahead w (now (lefts .entry)) (now (rights .entry)) (now (labels .entry)))) (now (asked .entry))) ⌝ }
+        (foundIn (turnedBack w (ahead w (now (lefts .entry)) (now (rights .entry)) (now (labels .entry)))) (now (wanted .entry))) ⌝ }
 {
-    if !sound::from1(w.slots, w.first) {
-        return Sought { code: 34, rows: 0 };
-    }
     let mut sieve: [u64; 16] = [0; 16];
-    let walked = look(w, lefts, rights, labels, asked, &mut sieve, positions);
+    let walked = look(w, lefts, rights, labels, wanted, &mut sieve, positions);
     let Tally::Labels(rows) = walked else {
         table::zero_words(positions, 32);
         return Sought { code: 34, rows: 0 };
     };
     if !w.rightward {
-        turn(rows, asked.len(), positions);
+        turn(rows, wanted.len(), positions);
     }
     Sought { code: 0, rows }
 }
@@ -226,7 +224,7 @@ fn search(
 #[no_mangle]
 pub extern "C" fn zc_find(
     control: &[u64; rows::CONTROL_WORDS],
-    asked: &[u32],
+    wanted: &[u32],
     lefts: &[u64],
     rights: &[u64],
     labels: &[u32],
@@ -235,11 +233,11 @@ pub extern "C" fn zc_find(
     ensures { λ r.
         ⌜ ((next : List ℕ) → r ≡ find
         (tablesOf (controlOf (now (control .entry))) (now (lefts .entry)) (now (rights .entry)) (now (labels .entry)) (now (marks .entry)) next)
-        (now (asked .entry))) ⌝ }
+        (now (wanted .entry))) ⌝ }
 {
     let row = *control;
     let c = rows::control_of(row);
-    let why = refusal(c, asked, lefts, rights, labels, marks);
+    let why = refusal(c, wanted, lefts, rights, labels, marks);
     if why != 0 {
         return FindReply {
             code: why as u64,
@@ -247,19 +245,30 @@ pub extern "C" fn zc_find(
             positions: [0; 32],
         };
     }
-    let w = walk::begin(c);
-    if walk::none_on(w) {
-        return FindReply {
-            code: 0,
-            rows: 0,
-            positions: [0; 32],
-        };
-    }
-    let mut positions: [u64; 32] = [0; 32];
-    let r = search(w, lefts, rights, labels, asked, &mut positions);
-    FindReply {
-        code: r.code,
-        rows: r.rows,
-        positions,
+    let start = walk::begin(c);
+    match start {
+        Beginning::Empty => {
+            return FindReply {
+                code: 0,
+                rows: 0,
+                positions: [0; 32],
+            };
+        }
+        Beginning::Unsound => {
+            return FindReply {
+                code: 34,
+                rows: 0,
+                positions: [0; 32],
+            };
+        }
+        Beginning::At(w) => {
+            let mut positions: [u64; 32] = [0; 32];
+            let r = search(w, lefts, rights, labels, wanted, &mut positions);
+            return FindReply {
+                code: r.code,
+                rows: r.rows,
+                positions,
+            };
+        }
     }
 }

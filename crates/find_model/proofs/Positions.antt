@@ -1,49 +1,45 @@
 -- The leftmost of equals: the first that a walk from the left meets, the last that one from the right meets.
-use mathlib.Core.Path.{_≡_, refl, sym, ap, ap₂, subst, _∙_}
-use mathlib.Core.Bool.{Bool, true, false, _&&_, cond}
+use mathlib.Core.{Path.{_≡_, refl, sym, ap, ap₂, subst, _∙_}, Bool.{Bool, true, false, _&&_, cond}}
 use mathlib.Core.List.{List, [], _∷_, _++_, map, map-append, map-map, reverse, reverse-cons}
 use mathlib.Core.Logic.{_≢_, _⊎_, inl, inr}
 use Prim.Native.Nat.{ℕ, zero, suc, _+_, _-_, _<_, _≤_}
 use native.Mathlib.{Nat.add-zero, Omega.arith}
-use lib.Dec.{eqb}
-use lib.ListN.{length, length-reverse, replicate}
+use lib.{Dec.eqb, ListN.{length, length-reverse, replicate}}
 use borrow.Author.Tests.{le-leb, ne-eqb}
-use Rattle.model.specs.declared.Entry.{Entry}
-use Rattle.model.proofs.tests.Truth.{split}
-use Rattle.find_model.specs.Find.{found, position, positionFrom}
-use Rattle.find_model.specs.Noting.{note, pick, turned}
+use Rattle.model.{specs.declared.Entry.Entry, proofs.tests.Truth.split}
+use Rattle.find_model.specs.{Find.{found, position, positionFrom}, Noting.{note, pick, turned}}
 
 -- What a walk notes for all labels asked for, entry by entry from the k-th on; and for one label.
 abbrev pub notes : Bool → List ℕ → ℕ → List ℕ → List Entry → List ℕ
-notes early asked k ps [] = ps
-notes early asked k ps (e ∷ l) = notes early asked (k + 1) (note early (e .label) k asked ps) l
+notes foremost wanted k ps [] = ps
+notes foremost wanted k ps (e ∷ l) = notes foremost wanted (k + 1) (note foremost (e .label) k wanted ps) l
 
 abbrev each : Bool → ℕ → ℕ → ℕ → List Entry → ℕ
-each early x k p [] = p
-each early x k p (e ∷ l) = each early x (k + 1) (pick early x (e .label) k p) l
+each foremost x k p [] = p
+each foremost x k p (e ∷ l) = each foremost x (k + 1) (pick foremost x (e .label) k p) l
 
 -- The labels asked for do not touch each other.
-note-each : (early : Bool) (y k : ℕ) (f : ℕ → ℕ) (zs asked : List ℕ)
-    → note early y k asked (map f asked ++ zs) ≡ map (λ x. pick early x y k (f x)) asked ++ zs
-note-each early y k f zs [] = refl
-note-each early y k f zs (x ∷ asked) = ap (λ (l : List ℕ). pick early x y k (f x) ∷ l) (note-each early y k f zs asked)
+note-each : (foremost : Bool) (y k : ℕ) (f : ℕ → ℕ) (zs wanted : List ℕ)
+    → note foremost y k wanted (map f wanted ++ zs) ≡ map (λ x. pick foremost x y k (f x)) wanted ++ zs
+note-each foremost y k f zs [] = refl
+note-each foremost y k f zs (x ∷ wanted) = ap (λ (l : List ℕ). pick foremost x y k (f x) ∷ l) (note-each foremost y k f zs wanted)
 
-notes-each : (early : Bool) (asked zs : List ℕ) (k : ℕ) (f : ℕ → ℕ) (l : List Entry)
-    → notes early asked k (map f asked ++ zs) l ≡ map (λ x. each early x k (f x) l) asked ++ zs
-notes-each early asked zs k f [] = refl
-notes-each early asked zs k f (e ∷ l) =
-    ap (λ (ps : List ℕ). notes early asked (k + 1) ps l) (note-each early (e .label) k f zs asked)
-    ∙ notes-each early asked zs (k + 1) (λ x. pick early x (e .label) k (f x)) l
+notes-each : (foremost : Bool) (wanted zs : List ℕ) (k : ℕ) (f : ℕ → ℕ) (l : List Entry)
+    → notes foremost wanted k (map f wanted ++ zs) l ≡ map (λ x. each foremost x k (f x) l) wanted ++ zs
+notes-each foremost wanted zs k f [] = refl
+notes-each foremost wanted zs k f (e ∷ l) =
+    ap (λ (ps : List ℕ). notes foremost wanted (k + 1) ps l) (note-each foremost (e .label) k f zs wanted)
+    ∙ notes-each foremost wanted zs (k + 1) (λ x. pick foremost x (e .label) k (f x)) l
 
 abbrev blank : ℕ → List ℕ
 blank n = replicate n 0
 
-zeros : (n : ℕ) (asked : List ℕ) → length asked ≤ n → blank n ≡ map (λ x. 0) asked ++ blank (n - length asked)
+zeros : (n : ℕ) (wanted : List ℕ) → length wanted ≤ n → blank n ≡ map (λ x. 0) wanted ++ blank (n - length wanted)
 zeros n [] h = let e : n ≡ n - 0 = omega arith in ap blank e
-zeros zero (x ∷ asked) h = absurd (omega arith)
-zeros (suc n) (x ∷ asked) h =
-    let e : n - length asked ≡ suc n - suc (length asked) = omega arith in
-    ap (λ (l : List ℕ). 0 ∷ l) (zeros n asked (omega arith) ∙ ap (λ (m : ℕ). map (λ x. 0) asked ++ blank m) e)
+zeros zero (x ∷ wanted) h = absurd (omega arith)
+zeros (suc n) (x ∷ wanted) h =
+    let e : n - length wanted ≡ suc n - suc (length wanted) = omega arith in
+    ap (λ (l : List ℕ). 0 ∷ l) (zeros n wanted (omega arith) ∙ ap (λ (m : ℕ). map (λ x. 0) wanted ++ blank m) e)
 
 -- From the left: a match that was noted stays, else the position is the first match's.
 stays : (x k p : ℕ) (l : List Entry) → p ≢ 0 → each true x k p l ≡ p
@@ -118,26 +114,26 @@ turned-latest x m = ap (turned (length m)) (latest x 1 0 m) ∙ go (behind x m) 
         let high : v ≤ length m = omega arith in
         rw (ne-eqb p 0 (λ z. omega arith), le-leb 1 v low, le-leb v (length m) high) (omega arith)
 
-module _ (asked : List ℕ) (few : length asked ≤ 32) where
+module _ (wanted : List ℕ) (few : length wanted ≤ 32) where
   abbrev rest : List ℕ
-  rest = blank (32 - length asked)
+  rest = blank (32 - length wanted)
 
-  begun : (early : Bool) (l : List Entry) → notes early asked 1 (blank 32) l ≡ map (λ x. each early x 1 0 l) asked ++ rest
-  begun early l = ap (λ (ps : List ℕ). notes early asked 1 ps l) (zeros 32 asked few) ∙ notes-each early asked rest 1 (λ x. 0) l
+  begun : (foremost : Bool) (l : List Entry) → notes foremost wanted 1 (blank 32) l ≡ map (λ x. each foremost x 1 0 l) wanted ++ rest
+  begun foremost l = ap (λ (ps : List ℕ). notes foremost wanted 1 ps l) (zeros 32 wanted few) ∙ notes-each foremost wanted rest 1 (λ x. 0) l
 
-  pub from-left : (l : List Entry) → notes true asked 1 (replicate 32 0) l ≡ found l asked .positions
+  pub from-left : (l : List Entry) → notes true wanted 1 (replicate 32 0) l ≡ found l wanted .positions
   unfolding found
-  from-left l = begun true l ∙ (λ i. map (λ x. earliest x 1 l (λ z. omega arith) i) asked ++ rest)
+  from-left l = begun true l ∙ (λ i. map (λ x. earliest x 1 l (λ z. omega arith) i) wanted ++ rest)
 
   still : (rows n : ℕ) → map (turned rows) (blank n) ≡ blank n
   still rows zero = refl
   still rows (suc n) = ap (λ (l : List ℕ). 0 ∷ l) (still rows n)
 
-  pub from-right : (m : List Entry) → map (turned (length m)) (notes false asked 1 (replicate 32 0) m) ≡ found (reverse m) asked .positions
+  pub from-right : (m : List Entry) → map (turned (length m)) (notes false wanted 1 (replicate 32 0) m) ≡ found (reverse m) wanted .positions
   unfolding found
   from-right m =
       let t = turned (length m) in
-      let each-turned = map-map t (λ x. each false x 1 0 m) asked ∙ (λ i. map (λ x. turned-latest x m i) asked) in
+      let each-turned = map-map t (λ x. each false x 1 0 m) wanted ∙ (λ i. map (λ x. turned-latest x m i) wanted) in
       ap (map t) (begun false m)
-      ∙ map-append t (map (λ x. each false x 1 0 m) asked) rest
-      ∙ ap₂ (λ (a b : List ℕ). a ++ b) each-turned (still (length m) (32 - length asked))
+      ∙ map-append t (map (λ x. each false x 1 0 m) wanted) rest
+      ∙ ap₂ (λ (a b : List ℕ). a ++ b) each-turned (still (length m) (32 - length wanted))

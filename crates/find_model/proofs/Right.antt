@@ -1,16 +1,11 @@
 -- The position of a label is that of its leftmost copy.
-use mathlib.Core.Bool.{true, false}
-use mathlib.Core.List.{List, [], _∷_, _++_, map}
-use mathlib.Core.Logic.{_⊎_, inl, inr}
-use mathlib.Core.Path.{_≡_, ap, refl, subst, sym}
+use mathlib.Core.{Bool.{true, false}, List.{List, [], _∷_, _++_, map}, Logic.{_⊎_, inl, inr}}
+use mathlib.Core.Path.{_≡_, refl, subst, sym}
 use Prim.Native.Nat.{ℕ, zero, suc, _+_, _<_}
 use native.Mathlib.Omega.{arith}
-use lib.Dec.{eqb}
-use lib.ListN.{getD, length}
+use lib.{Dec.eqb, ListN.{getD, length}}
 use borrow.Author.Tests.{eqb-false, eqb-true}
-use Rattle.model.specs.declared.Entry.{Entry}
-use Rattle.model.specs.Walk.{CopyAt}
-use Rattle.model.proofs.tests.Truth.{split}
+use Rattle.model.{specs.{declared.Entry.Entry, Walk.CopyAt}, proofs.tests.Truth.split}
 use Rattle.find_model.specs.Find.{Found, FoundRight, found, leftmost, notWaiting, position, positionFrom}
 
 abbrev None : ℕ → List Entry → Type 0
@@ -56,11 +51,11 @@ position-right x l = go (position l x) (told 1 x l)
     go p (inl z) = subst (Found x l) (sym (z .0)) (notWaiting (z .1))
     go p (inr f) = subst (Found x l) (let z : suc (f .place) ≡ p = omega (arith, f .is) in z) (leftmost (f .place) (f .copy) (f .none))
 
-one-of : (f : ℕ → ℕ) (asked rest : List ℕ) (k : ℕ) → k < length asked → getD (map f asked ++ rest) k 0 ≡ f (getD asked k 0)
+one-of : (f : ℕ → ℕ) (wanted rest : List ℕ) (k : ℕ) → k < length wanted → getD (map f wanted ++ rest) k 0 ≡ f (getD wanted k 0)
 one-of f [] rest k h = absurd (omega (arith, h))
-one-of f (x ∷ asked) rest zero h = refl
-one-of f (x ∷ asked) rest (suc k) h = one-of f asked rest k (omega (arith, h))
+one-of f (x ∷ wanted) rest zero h = refl
+one-of f (x ∷ wanted) rest (suc k) h = one-of f wanted rest k (omega (arith, h))
 
 pub found-right : FoundRight
 unfolding found
-found-right l asked k h = subst (Found (getD asked k 0) l) (sym (one-of (position l) asked _ k h)) (position-right (getD asked k 0) l)
+found-right l wanted k h = subst (Found (getD wanted k 0) l) (sym (one-of (position l) wanted _ k h)) (position-right (getD wanted k 0) l)

@@ -1,17 +1,9 @@
 -- The positions of some labels among those waiting. (Document 02, #110.)
-use mathlib.Core.Path.{_≡_}
-use mathlib.Core.Bool.{false, not, cond}
-use mathlib.Core.List.{List, [], _∷_, _++_, map}
+use mathlib.Core.{Path._≡_, Bool.{false, not, cond}, List.{List, [], _∷_, _++_, map}}
 use Prim.Native.Nat.{ℕ, suc, _+_, _-_, _<_}
-use lib.Dec.{ltb, eqb}
-use lib.ListN.{getD, length, replicate}
-use Rattle.model.specs.declared.Entry.{Entry}
-use Rattle.model.specs.Tables.{Tables, Queue}
-use Rattle.model.specs.Sound.{controlSound, rowsFit}
-use Rattle.model.specs.Walk.{CopyAt, contents, isBroken, met}
-use Rattle.model.specs.Report.{waiting}
-use Rattle.model.specs.Refusals.{Rule, rule, first}
-use Rattle.model.specs.Standing.{Standing}
+use lib.{Dec.{ltb, eqb}, ListN.{getD, length, replicate}}
+use Rattle.model.specs.{declared.Entry.Entry, Tables.{Tables, Queue}, Sound.{controlSound, rowsFit}, Report.waiting}
+use Rattle.model.specs.{Walk.{CopyAt, contents, isBroken, met}, Refusals.{Rule, rule, first}, Standing.Standing}
 use Rattle.model.specs.History.{AfterOpening, final, ledger, run}
 use Rattle.find_model.specs.declared.FindReply.{FindReply}
 
@@ -26,31 +18,31 @@ position l x = positionFrom 1 x l
 
 -- 34 for control and Anchor, 45, 12, and 34 for the walk. 12 looks at no records, and at no next table: neither is lent.
 abbrev pub findRules : Tables → List ℕ → List Rule
-findRules q asked =
+findRules q wanted =
     rule 34 (not (controlSound (q .control)))
-    ∷ rule 45 (ltb 32 (length asked))
+    ∷ rule 45 (ltb 32 (length wanted))
     ∷ rule 12 (not (rowsFit false (q .control .slots) q))
     ∷ rule 34 (isBroken (contents q))
     ∷ []
 
 unfoldable pub findRefusal : Tables → List ℕ → ℕ
-findRefusal q asked = first (findRules q asked)
+findRefusal q wanted = first (findRules q wanted)
 
 -- What is found among the entries l: how many they are, and the positions of those asked for, 32 with the rest 0.
 unfoldable pub found : List Entry → List ℕ → FindReply
-found l asked = record {
+found l wanted = record {
   code = 0;
   rows = length l;
-  positions = map (position l) asked ++ replicate (32 - length asked) 0;
+  positions = map (position l) wanted ++ replicate (32 - length wanted) 0;
 }
 
 abbrev pub refused : ℕ → FindReply
 refused n = record { code = n; rows = 0; positions = replicate 32 0 }
 
 unfoldable pub find : Tables → List ℕ → FindReply
-find q asked =
-    let why = findRefusal q asked in
-    cond (eqb why 0) (found (met (contents q)) asked) (refused why)
+find q wanted =
+    let why = findRefusal q wanted in
+    cond (eqb why 0) (found (met (contents q)) wanted) (refused why)
 
 -- What is told of label x among the entries l: the place of its leftmost copy, counted from 1; an absent one is not waiting, 0.
 pub data Found (x : ℕ) (l : List Entry) : ℕ → Type 0 where
@@ -59,20 +51,20 @@ pub data Found (x : ℕ) (l : List Entry) : ℕ → Type 0 where
 
 -- It is told of each label asked for.
 abbrev pub FoundRight : Type 0
-FoundRight = (l : List Entry) (asked : List ℕ) (k : ℕ) → k < length asked → Found (getD asked k 0) l (getD (found l asked .positions) k 0)
+FoundRight = (l : List Entry) (wanted : List ℕ) (k : ℕ) → k < length wanted → Found (getD wanted k 0) l (getD (found l wanted .positions) k 0)
 
 -- Of a queue on which a call that walks may rely, as after a return to a shelf: over 32 labels are refused, never 34; else the positions are
 -- those among its entries.
 abbrev pub StandingFinds : Type 0
-StandingFinds = (q : Queue) (d : List Entry) → Standing q d → (asked : List ℕ)
-    → find (q .tables) asked ≡ cond (ltb 32 (length asked)) (refused 45) (found d asked)
+StandingFinds = (q : Queue) (d : List Entry) → Standing q d → (wanted : List ℕ)
+    → find (q .tables) wanted ≡ cond (ltb 32 (length wanted)) (refused 45) (found d wanted)
 
 -- After any list following an opening they are those in the sequential deque's queue.
 abbrev pub Finds : Type 0
 Finds =
-    AfterOpening (λ q os. (asked : List ℕ)
-    → find (final q os .tables) asked ≡ cond (ltb 32 (length asked)) (refused 45) (found (ledger (run q os) .deque) asked))
+    AfterOpening (λ q os. (wanted : List ℕ)
+    → find (final q os .tables) wanted ≡ cond (ltb 32 (length wanted)) (refused 45) (found (ledger (run q os) .deque) wanted))
 
 -- The walk's count of rows equals the number waiting.
 abbrev pub RowsWaiting : Type 0
-RowsWaiting = (q : Tables) (asked : List ℕ) → findRefusal q asked ≡ 0 → find q asked .rows ≡ waiting q
+RowsWaiting = (q : Tables) (wanted : List ℕ) → findRefusal q wanted ≡ 0 → find q wanted .rows ≡ waiting q

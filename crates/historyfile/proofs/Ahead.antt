@@ -1,17 +1,12 @@
 -- One byte on, what is ahead stays what it was.
-use mathlib.Core.Bool.{Bool, true, false, _||_, cond}
-use mathlib.Core.List.{List, [], _∷_, _++_}
-use mathlib.Core.Path.{_≡_, sym, ap, _∙_}
+use mathlib.Core.{Bool.{Bool, true, false, _||_, cond}, List.{List, [], _∷_, _++_}, Path.{_≡_, sym, ap, _∙_}}
 use Prim.Native.Nat.{ℕ, suc, _+_, _-_, _<_, _≤_}
 use native.Mathlib.Omega.{arith}
-use lib.Dec.{eqb}
-use lib.ListN.{length, getD, take, drop, drop-of-length-le, length-drop}
-use lib.Seq.{getD-drop, take-suc}
+use lib.{Dec.eqb, ListN.{length, getD, take, drop, drop-of-length-le, length-drop}, Seq.{getD-drop, take-suc}}
 use Rattle.model.proofs.tests.Truth.{by-test, split}
-use Rattle.historyfile.specs.declared.reading.{Place.Place, State.State}
+use Rattle.historyfile.specs.{declared.reading.{Place.Place, State.State}, Text.{Piece, lineEnd, ofWord, pieces}}
 use Rattle.historyfile.specs.Buffer.{Within, ahead, held, reading, separated}
 use Rattle.historyfile.specs.Reading.{endedLine, readAll, readEnd, readWord}
-use Rattle.historyfile.specs.Text.{Piece, lineEnd, ofWord, pieces}
 use Rattle.historyfile.proofs.{Digits.next-of, Held.all-held}
 
 abbrev part : List ℕ → ℕ → ℕ → List ℕ

@@ -1,12 +1,8 @@
 -- A word of digits, one digit after the other.
-use mathlib.Core.Bool.{Bool, true, false, _&&_}
-use mathlib.Core.List.{List, [], _∷_}
-use mathlib.Core.Path.{_≡_, sym, ap, _∙_}
+use mathlib.Core.{Bool.{Bool, true, false, _&&_}, List.{List, [], _∷_}, Path.{_≡_, sym, ap, _∙_}}
 use Prim.Native.Nat.{ℕ, _+_, _-_, _*_, _≤_, _<_}
 use native.Mathlib.{Numerals.add-one, Omega.arith}
-use lib.Dec.{eqb, leb, ltb}
-use lib.ListN.{length, getD, drop}
-use lib.Seq.{drop-cons}
+use lib.{Dec.{eqb, leb, ltb}, ListN.{length, getD, drop}, Seq.drop-cons}
 use borrow.Author.Tests.{eqb-false, eqb-true, leb-false, leb-true, ltb-false, ltb-true}
 use Rattle.model.proofs.tests.Truth.{and-true, or-cases, or-false, split}
 use Rattle.historyfile.specs.Words.{allDigits, fits, isDigit, valued}

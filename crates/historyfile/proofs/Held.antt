@@ -1,19 +1,14 @@
 -- A reading whose first numbers alone are held goes on to the same first numbers.
-use mathlib.Core.Bool.{Bool, true, false, _&&_, _||_, cond, not}
-use mathlib.Core.List.{List, [], _∷_, _++_}
-use mathlib.Core.Path.{_≡_, sym, ap, _∙_}
+use mathlib.Core.{Bool.{Bool, true, false, _&&_, _||_, cond, not}, List.{List, [], _∷_, _++_}, Path.{_≡_, sym, ap, _∙_}}
 use Prim.Native.Nat.{ℕ, _+_, _<_, _≤_}
 use native.Mathlib.{Numerals.add-one, Omega.arith}
-use lib.Dec.{eqb, eqb·suc-zero, leb}
-use lib.ListN.{length, set, take, length-append, length-take}
+use lib.{Dec.{eqb, eqb·suc-zero, leb}, ListN.{length, set, take, length-append, length-take}}
 use lib.Seq.{length-take-le, take-all, take-append-le, take-suc-set, take-take}
 use borrow.Author.Tests.{leb-false, leb-true, not-false, not-true}
 use Rattle.model.proofs.tests.Truth.{split}
-use Rattle.historyfile.specs.declared.reading.{State.State, Turn.Turn}
-use Rattle.historyfile.specs.Buffer.{Within, held, reading}
-use Rattle.historyfile.specs.Reading.{Reading, appended, kept, readAll, readEnd, readWord, turned}
+use Rattle.historyfile.specs.{declared.reading.{State.State, Turn.Turn}, Buffer.{Within, held, reading}}
+use Rattle.historyfile.specs.{Reading.{Reading, appended, kept, readAll, readEnd, readWord, turned}, Words.says}
 use Rattle.historyfile.specs.Text.{Piece, word, lineEnd}
-use Rattle.historyfile.specs.Words.{says}
 
 -- The first m of a list, behind which one more may be put.
 take-appended : (m : ℕ) (g : Bool) (v : ℕ) (l : List ℕ) → take m (appended g v (take m l)) ≡ take m (appended g v l)

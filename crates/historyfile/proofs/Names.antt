@@ -1,10 +1,7 @@
 -- Two words compared byte by byte.
-use mathlib.Core.Bool.{Bool, true, false, _&&_}
-use mathlib.Core.List.{List, [], _∷_}
-use mathlib.Core.Path.{_≡_, refl, ap}
+use mathlib.Core.{Bool.{Bool, true, false, _&&_}, List.{List, [], _∷_}, Path.{_≡_, refl, ap}}
 use Prim.Native.Nat.{ℕ, suc, _+_, _≤_, _<_}
-use lib.Dec.{eqb}
-use lib.ListN.{length, getD, drop, drop-of-length-le}
+use lib.{Dec.eqb, ListN.{length, getD, drop, drop-of-length-le}}
 use Rattle.historyfile.specs.Words.{same}
 use Rattle.historyfile.proofs.Digits.{next-of}
 

@@ -1,14 +1,10 @@
 -- What lies behind the numbers kept stays as it was.
-use mathlib.Core.List.{List}
-use mathlib.Core.Path.{refl, sym, ap, _∙_, _≡_}
+use mathlib.Core.{List.List, Path.{refl, sym, ap, _∙_, _≡_}}
 use Prim.Native.Nat.{ℕ, _+_, _-_}
 use native.Mathlib.Omega.{arith}
-use lib.Dec.{eqb}
-use lib.ListN.{set, drop}
-use lib.Seq.{drop-drop, drop-set-lt}
+use lib.{Dec.eqb, ListN.{set, drop}, Seq.{drop-drop, drop-set-lt}}
 use Rattle.model.proofs.tests.Truth.{by-test}
-use Rattle.historyfile.specs.declared.reading.State.{State}
-use Rattle.historyfile.specs.Buffer.{BothWritten, Written, separated}
+use Rattle.historyfile.specs.{declared.reading.State.State, Buffer.{BothWritten, Written, separated}}
 
 pub unwritten : (n : ℕ) (l : List ℕ) → Written n n l l
 unwritten n l = record { onward = omega arith; rest = refl }

@@ -1,13 +1,8 @@
 -- A reading whose numbers lie at the front of two buffers, as many as there is room for.
-use mathlib.Core.Bool.{false, _||_, cond}
-use mathlib.Core.List.{List}
-use mathlib.Core.Path.{_≡_}
+use mathlib.Core.{Bool.{false, _||_, cond}, List.List, Path._≡_}
 use Prim.Native.Nat.{ℕ, _-_, _≤_}
-use lib.Dec.{eqb}
-use lib.ListN.{take, drop}
-use Rattle.historyfile.specs.declared.reading.State.{State}
-use Rattle.historyfile.specs.Reading.{Reading, endedLine, readAll}
-use Rattle.historyfile.specs.Text.{pieces}
+use lib.{Dec.eqb, ListN.{take, drop}}
+use Rattle.historyfile.specs.{declared.reading.State.State, Reading.{Reading, endedLine, readAll}, Text.pieces}
 
 abbrev pub reading : State → List ℕ → List ℕ → Reading
 reading s calls order = record { place = s .place; calls = take (s .calls) calls; order = take (s .order) order }

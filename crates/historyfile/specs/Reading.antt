@@ -1,12 +1,9 @@
 -- The numbers of a text.
-use mathlib.Core.Bool.{Bool, true, false, _&&_, not, cond}
-use mathlib.Core.List.{List, [], _∷_, _++_}
+use mathlib.Core.{Bool.{Bool, true, false, _&&_, not, cond}, List.{List, [], _∷_, _++_}}
 use Prim.Native.Nat.{ℕ, _+_, _%_, _^_}
 use lib.Dec.{eqb, ltb}
-use Rattle.historyfile.specs.declared.reading.{Place.Place, Turn.Turn}
-use Rattle.historyfile.specs.declared.words.Meaning.{Meaning}
-use Rattle.historyfile.specs.declared.words.Meaning.the-variants.{Number, NoLabel, Order, Fault}
-use Rattle.historyfile.specs.Text.{Piece, word, lineEnd, pieces}
+use Rattle.historyfile.specs.{declared.reading.{Place.Place, Turn.Turn}, Text.{Piece, word, lineEnd, pieces}}
+use Rattle.historyfile.specs.declared.words.Meaning.{Meaning, the-variants.{Number, NoLabel, Order, Fault}}
 use Rattle.historyfile.specs.Words.{says, seven, unlabelled}
 
 -- Line 1, column 0.

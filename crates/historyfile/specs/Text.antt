@@ -3,8 +3,7 @@
 --   0 push right 700 pushed 1 3      a call a line: task, kind, side, label, answer, start event, answer event
 --   1 pop left - empty 4 6           with empty the label may be -; kind, side and answer may be numbers
 --   order 1 2                        the claimed order of effects: numbers of calls, to the end of the file
-use mathlib.Core.Bool.{Bool, false, _||_, not, cond}
-use mathlib.Core.List.{List, [], _∷_, _++_}
+use mathlib.Core.{Bool.{Bool, false, _||_, not, cond}, List.{List, [], _∷_, _++_}}
 use Prim.Native.Nat.{ℕ}
 use lib.Dec.{eqb}
 

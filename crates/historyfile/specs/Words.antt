@@ -1,11 +1,9 @@
 -- What a word says in its column: 0 task, 1 kind, 2 side, 3 label, 4 answer, 5 start event, 6 answer event, 7 behind a call; 8 in the order.
-use mathlib.Core.Bool.{Bool, true, false, _&&_, _||_, cond}
-use mathlib.Core.List.{List, [], _∷_}
+use mathlib.Core.{Bool.{Bool, true, false, _&&_, _||_, cond}, List.{List, [], _∷_}}
 use Prim.Native.Nat.{ℕ, _+_, _-_, _*_, _^_}
 use lib.Dec.{eqb, leb, ltb}
 use Rattle.lines.specs.Ascii.{ascii}
-use Rattle.historyfile.specs.declared.words.Meaning.{Meaning}
-use Rattle.historyfile.specs.declared.words.Meaning.the-variants.{Number, NoLabel, Order, Fault}
+use Rattle.historyfile.specs.declared.words.Meaning.{Meaning, the-variants.{Number, NoLabel, Order, Fault}}
 
 -- Why a text cannot be read: no word of its column, a number of 2 ^ 64 or more, a call of fewer or more than seven words,
 -- - with another answer than empty.

@@ -1,14 +1,13 @@
 //! One word after the other: words into numbers, each in its column, kept in lent buffers.
 use crate::words;
 use crate::words::Meaning;
-ghost use mathlib.Core.Path.{_≡_};
-ghost use mathlib.Core.Bool.{false};
+ghost use mathlib.Core.{Path._≡_, Bool.false};
 ghost use Prim.Native.Nat.{_+_, _^_, _≤_, _<_};
 ghost use lib.ListN.{length, take};
 ghost use Rattle.historyfile.specs.Buffer.{BothWritten, Within, Written, ahead, held, reading, separated};
-ghost use Rattle.historyfile.specs.Reading.{appended, atStart, endedLine, kept, nextColumn, nextLine, numbered, readWord, stopped, turned, whole};
+ghost use Rattle.historyfile.specs.Reading.{appended, atStart, endedLine, kept, nextColumn, nextLine, numbered};
+ghost use Rattle.historyfile.specs.{Reading.{readWord, stopped, turned, whole}, Words.says};
 ghost use Rattle.historyfile.specs.declared.words.Meaning;
-ghost use Rattle.historyfile.specs.Words.{says};
 
 /// Where the reading stands.
 pub struct Place {

@@ -1,9 +1,7 @@
 //! Words: which bytes are of one, and what it says in its column.
-ghost use mathlib.Core.Bool.{true};
-ghost use mathlib.Core.Path.{_≡_};
-ghost use Rattle.historyfile.specs.Text.{isBlank, ofWord};
+ghost use mathlib.Core.{Bool.true, Path._≡_};
+ghost use Rattle.historyfile.specs.{Text.{isBlank, ofWord}, Words.{allDigits, fits, isDigit}};
 ghost use Rattle.historyfile.specs.Words as meaning;
-ghost use Rattle.historyfile.specs.Words.{allDigits, fits, isDigit};
 
 /// What a word says.
 pub enum Meaning {

@@ -1,33 +1,20 @@
 -- The rules stage by stage: refused before the walks, by one of them, or as the rules after them say.
-use mathlib.Core.Path.{_≡_, refl, sym, ap, ap₂, subst, _∙_}
-use mathlib.Core.Bool.{Bool, true, false, not, cond}
-use mathlib.Core.List.{List, [], _∷_}
+use mathlib.Core.{Path.{_≡_, refl, sym, ap, ap₂, subst, _∙_}, Bool.{Bool, true, false, not, cond}, List.{List, [], _∷_}}
 use mathlib.Core.Logic.{_≢_}
 use Prim.Native.Nat.{ℕ, _+_, _≤_}
 use native.Mathlib.Omega.{arith}
-use lib.Dec.{ltb}
-use lib.ListN.{length, length-map}
-use Rattle.model.specs.declared.Control.{Control}
-use Rattle.model.specs.declared.Entry.{Entry}
-use Rattle.model.specs.Tables.{Queue, tablesOf, queueOf}
-use Rattle.model.specs.Sound.{controlTests, controlSound}
-use Rattle.model.specs.Walk.{contents, met}
-use Rattle.model.proofs.tests.Rules.{tests}
-use Rattle.model.proofs.bridge.Facts.{from1-true}
-use Rattle.model.specs.Lists.{every}
+use lib.{Dec.ltb, ListN.{length, length-map}}
+use Rattle.model.specs.{declared.{Control.Control, Entry.Entry}, Tables.{Queue, tablesOf, queueOf}, Lists.every}
+use Rattle.model.specs.{Sound.{controlTests, controlSound}, Walk.{contents, met}}
+use Rattle.model.proofs.{tests.Rules.tests, bridge.Facts.from1-true}
 use Rattle.sound.specs.Lengths.{lengthsOf}
-use Rattle.walk.specs.declared.Tally.{Tally}
-use Rattle.walk.specs.declared.Tally.the-variants.{Broken, Labels}
-use Rattle.walk.specs.Counted.{counted}
+use Rattle.walk.specs.{declared.Tally.{Tally, the-variants.{Broken, Labels}}, Counted.counted}
 use Rattle.walk.proofs.Counting.{all-counted, none-counted}
-use Rattle.rows.specs.Rows.{recordsOf}
-use Rattle.rows.proofs.Rows.{length-records}
+use Rattle.rows.{specs.Rows.recordsOf, proofs.Rows.length-records}
 use Rattle.stock_model.specs.Accounts.{waitingLabels}
 use Rattle.join_model.specs.Join.{anchorIn, lanes, sourceFits, thirdFits, atRest, fresh}
-use Rattle.join_model.specs.Closed.{lateFor, closedRefusal}
-use Rattle.join_model.proofs.Merged.{interleaved, length-merged}
-use Rattle.join.specs.declared.admit.Admission.{Admission}
-use Rattle.join.specs.Stages.{lengthsFit, testsRefusal, laterRefusal}
+use Rattle.join_model.{specs.Closed.{lateFor, closedRefusal}, proofs.Merged.{interleaved, length-merged}}
+use Rattle.join.specs.{declared.admit.Admission.Admission, Stages.{lengthsFit, testsRefusal, laterRefusal}}
 use Rattle.join.specs.Admits.{walked, Admits}
 
 -- Long enough by the lengths is long enough, whatever marks and next table are told of.

@@ -1,20 +1,14 @@
 -- Rows filled over scratch, and the labels that scratch leads to.
-use mathlib.Core.Path.{_≡_, refl, sym, ap, subst, _∙_}
-use mathlib.Core.Bool.{Bool, true, false, cond}
+use mathlib.Core.{Path.{_≡_, refl, sym, ap, subst, _∙_}, Bool.{Bool, true, false, cond}}
 use mathlib.Core.List.{List, [], _∷_, map, reverseAux}
 use Prim.Native.Nat.{ℕ, zero, suc, _+_, _<_, _≤_}
-use native.Mathlib.Decide.{decLe}
-use native.Mathlib.Omega.{arith}
-use lib.Dec.{eqb}
-use lib.ListN.{length, getD, set, drop}
-use lib.Seq.{ext-getD, getD-set-other}
-use borrow.Author.Tests.{lt-ltb, le-ltb}
+use native.Mathlib.{Decide.decLe, Omega.arith}
+use lib.{Dec.{eqb, leb}, ListN.{length, getD, set, drop}, Seq.{ext-getD, getD-set-other}}
+use borrow.Author.Tests.{leb-true, lt-ltb, le-ltb}
 use Rattle.word.specs.Link.{linkOf}
-use Rattle.model.specs.declared.Entry.{Entry}
-use Rattle.model.specs.Tables.{withMark}
-use Rattle.model.specs.Sound.{from1, linkSound}
+use Rattle.model.specs.{declared.Entry.Entry, Tables.withMark, Sound.{from1, linkSound}}
 use Rattle.model.specs.Walk.{Walk, entries, broken, andThen, along, isBroken, met}
-use Rattle.model.proofs.tests.Truth.{not-both}
+use Rattle.model.proofs.tests.Truth.{and-true, not-both}
 use Rattle.join_model.specs.Closed.{filled, rightOf, labelOf, markedTo}
 use Rattle.join_model.proofs.Filling.{filled-length, filled-beyond, filled-at}
 use Rattle.join.specs.Scratch.{trail, rowsDown, rightTo}
@@ -73,48 +67,59 @@ linked n l s z =
         ∙ rw (lt-ltb i (suc n) (omega arith)) (sym (filled-at rightOf n l i a b (omega arith)))
     go i (beyond b) = last i b (row (suc n) i) ∙ sym (filled-beyond rightOf n l i b)
 
--- A walk as the slots that it treads.
-pub data Trod (links labels : List ℕ) : ℕ → List Entry → Type 0 where
-  stops : (x : ℕ) → Trod links labels x (record { slot = x; label = getD labels x 0 } ∷ [])
-  treads : (x : ℕ) {l : List Entry} → Trod links labels (linkOf (getD links x 0) .slot) l → Trod links labels x
+-- A walk as the slots that it treads, none above slots.
+pub data Trod (slots : ℕ) (links labels : List ℕ) : ℕ → List Entry → Type 0 where
+  stops : (x : ℕ) → x ≤ slots → Trod slots links labels x (record { slot = x; label = getD labels x 0 } ∷ [])
+  treads : (x : ℕ) {l : List Entry} → x ≤ slots → Trod slots links labels (linkOf (getD links x 0) .slot) l → Trod slots links labels x
       (record { slot = x; label = getD labels x 0 } ∷ l)
 
 astray : (l : List Entry) {A : Type 0} → broken ≡ entries l → A
 astray l e = absurd (not-both (sym (ap isBroken e)) refl)
 
 module _ (slots : ℕ) (links labels : List ℕ) (last : ℕ) where
-  pub trod : (n x : ℕ) (l : List Entry) → along slots links labels last n x ≡ entries l → Trod links labels x l
+  pub trod : (n x : ℕ) (l : List Entry) → along slots links labels last n x ≡ entries l → Trod slots links labels x l
   unfolding along
   trod zero x l e = astray l e
-  trod (suc n) x l e = go (from1 slots x) (eqb x last) (linkSound slots (getD links x 0)) (along slots links labels last n y) (λ m. trod n y m) e
+  trod (suc n) x l e = go (from1 slots x) refl (eqb x last) (linkSound slots (getD links x 0)) (along slots links labels last n y) (λ m. trod n y m) e
     where
       y : ℕ
       y = linkOf (getD links x 0) .slot
 
-      go : (a b c : Bool) (w : Walk) → ((m : List Entry) → w ≡ entries m → Trod links labels (linkOf (getD links x 0) .slot) m)
+      low : from1 slots x ≡ true → x ≤ slots
+      low f = leb-true x slots (and-true (leb 1 x) (leb x slots) f .1)
+
+      go : (a : Bool) → from1 slots x ≡ a → (b c : Bool) (w : Walk)
+          → ((m : List Entry) → w ≡ entries m → Trod slots links labels (linkOf (getD links x 0) .slot) m)
           → cond a (cond b (entries (record { slot = x; label = getD labels x 0 } ∷ []))
           (andThen (record { slot = x; label = getD labels x 0 }) (cond c w broken))) broken ≡ entries l
-          → Trod links labels x l
-      go true true c w h e = subst (Trod links labels x) (ap met e) (stops x)
-      go true false true (entries m) h e = subst (Trod links labels x) (ap met e) (treads x (h m refl))
-      go true false true broken h e = astray l e
-      go true false false w h e = astray l e
-      go false b c w h e = astray l e
+          → Trod slots links labels x l
+      go true f true c w h e = subst (Trod slots links labels x) (ap met e) (stops x (low f))
+      go true f false true (entries m) h e = subst (Trod slots links labels x) (ap met e) (treads x (low f) (h m refl))
+      go true f false true broken h e = astray l e
+      go true f false false w h e = astray l e
+      go false f b c w h e = astray l e
+
+  pub stays : (x : ℕ) (l : List Entry) → Trod slots links labels x l → (j : ℕ) → j < length l → trail links x j ≤ slots
+  unfolding trail
+  stays x l (stops y low) zero h = low
+  stays x l (stops y low) (suc j) h = absurd (omega arith)
+  stays x l (treads y low t) zero h = low
+  stays x l (treads y {l = m} low t) (suc j) h = stays (linkOf (getD links y 0) .slot) m t j (omega arith)
 
 abbrev pub names : List Entry → List ℕ
 names l = map (λ (e : Entry). e .label) l
 
 -- Turned, its labels are what the rows hold from the last one down, where row k + 1 has the label of the k-th slot.
-module _ (links labels : List ℕ) (f : ℕ → ℕ) where
-  pub turned : (x : ℕ) (l : List Entry) → Trod links labels x l → (k : ℕ) (before : List Entry)
+module _ (slots : ℕ) (links labels : List ℕ) (f : ℕ → ℕ) where
+  pub turned : (x : ℕ) (l : List Entry) → Trod slots links labels x l → (k : ℕ) (before : List Entry)
       → ((j : ℕ) → j < length l → f (suc (k + j)) ≡ getD labels (trail links x j) 0) → names before ≡ rowsDown f k
       → names (reverseAux l before) ≡ rowsDown f (k + length l)
   unfolding trail
-  turned x l (stops y) k before h e =
+  turned x l (stops y low) k before h e =
       let z : k ≡ k + 0 = omega arith in
       let g : k + 1 ≡ suc k = omega arith in
       (λ i. (sym (h 0 (omega arith)) ∙ ap (λ (n : ℕ). f (suc n)) (sym z)) i ∷ e i) ∙ ap (rowsDown f) (sym g)
-  turned x l (treads y {l = m} t) k before h e =
+  turned x l (treads y {l = m} low t) k before h e =
       let z : k ≡ k + 0 = omega arith in
       let g : suc k + length m ≡ k + suc (length m) = omega arith in
       turned (linkOf (getD links y 0) .slot) m t (suc k) (record { slot = y; label = getD labels y 0 } ∷ before)

@@ -1,7 +1,5 @@
 -- What goes next of two lists held in rows.
-use mathlib.Core.Path.{_≡_, refl, sym, ap, subst, _∙_}
-use mathlib.Core.List.{List, [], _∷_}
-use mathlib.Core.Logic.{_≢_}
+use mathlib.Core.{Path.{_≡_, refl, sym, ap, subst, _∙_}, List.{List, [], _∷_}, Logic._≢_}
 use Prim.Native.Nat.{ℕ, zero, suc, _-_, _<_, _≤_}
 use native.Mathlib.Omega.{arith}
 use borrow.Author.Tests.{le-leb, lt-leb}

@@ -1,35 +1,23 @@
 -- Refused, nothing to lay, or laid: what the joining leaves is what the definition says.
-use mathlib.Core.Path.{_≡_, refl, sym, ap, ap₂, subst, _∙_}
-use mathlib.Core.Bool.{Bool, true, false, _&&_, cond}
+use mathlib.Core.{Path.{_≡_, refl, sym, ap, ap₂, subst, _∙_}, Bool.{Bool, true, false, _&&_, cond}, Logic._≢_}
 use mathlib.Core.List.{List, [], _∷_, reverse}
-use mathlib.Core.Logic.{_≢_}
 use Prim.Native.Nat.{ℕ, zero, suc, _+_, _-_, _<_, _≤_}
 use native.Mathlib.Omega.{arith}
-use lib.Dec.{eqb}
-use lib.ListN.{length, getD, set, length-map, length-reverse}
+use lib.{Dec.eqb, ListN.{length, getD, set, length-map, length-reverse}}
 use borrow.Author.Tests.{eqb-false, ne-eqb, ltb-true}
 use Rattle.word.specs.Anchor.{anchorOf}
-use Rattle.model.specs.declared.Control.{Control}
-use Rattle.model.specs.declared.Entry.{Entry}
-use Rattle.model.specs.declared.Record.{Record}
-use Rattle.model.specs.Tables.{Tables, Queue, queueOf, idle, withCall, taskAt, tablesOf}
-use Rattle.model.specs.Sound.{rowTests, rowsFit}
+use Rattle.model.specs.{declared.{Control.Control, Entry.Entry, Record.Record}, Sound.{rowTests, rowsFit}}
+use Rattle.model.specs.{Tables.{Tables, Queue, queueOf, idle, withCall, taskAt, tablesOf}, Sides.isEmpty}
 use Rattle.model.specs.Walk.{Walk, entries, broken, along, contents, isBroken, met, walkFrom}
-use Rattle.model.proofs.tests.Rules.{tests}
-use Rattle.model.proofs.tests.Truth.{split, not-both}
-use Rattle.model.specs.Sides.{isEmpty}
-use Rattle.join_model.specs.Merge.{merge}
-use Rattle.stock_model.specs.Accounts.{waitingLabels}
-use Rattle.join_model.specs.Join.{anchorIn, lanes, joinRefusal, Joined, join, laid}
-use Rattle.join_model.specs.Closed.{filled, leftOf, labelOf, markedTo, held, holding, lateFor, closedRefusal, joinClosed}
-use Rattle.join_model.proofs.Merged.{interleaved, length-merged}
-use Rattle.join_model.proofs.Filling.{filled-at}
+use Rattle.model.proofs.tests.{Rules.tests, Truth.{split, not-both}}
+use Rattle.join_model.specs.{Merge.merge, Join.{anchorIn, lanes, joinRefusal, Joined, join, laid}, Closed.joinClosed}
+use Rattle.join_model.specs.Closed.{filled, leftOf, labelOf, markedTo, held, holding, lateFor, closedRefusal}
+use Rattle.join_model.proofs.{Merged.{interleaved, length-merged}, Filling.filled-at, Laws.tag-room}
 use Rattle.join_model.proofs.Closed.{Rests, same-refusal, accepted, closed-join}
-use Rattle.join_model.proofs.Laws.{tag-room}
-use Rattle.join.specs.declared.Done.{Done}
-use Rattle.join.specs.Scratch.{trail, walkedTo, labelVia, rowsDown, rightTo}
+use Rattle.stock_model.specs.Accounts.{waitingLabels}
+use Rattle.join.specs.{declared.Done.Done, Scratch.{InRows, trail, walkedTo, labelVia, rowsDown, rightTo}}
 use Rattle.join.specs.Anchored.{anchored, Joins}
-use Rattle.join.proofs.Filled.{overwritten, linked, names, trod, turned}
+use Rattle.join.proofs.Filled.{Trod, overwritten, linked, names, stays, trod, turned}
 
 -- At rest, the walk begins at the right end.
 module _ (q : Tables) where
@@ -43,45 +31,60 @@ module _ (q : Tables) where
   unfolding contents
   from-right e f = rw (e, f)
 
--- The labels waiting are what the rows lead to, from the last one down.
-module _ (q : Queue) (rests : Rests q) (n : ℕ) (all : n ≡ length (waitingLabels (q .tables))) (slots : List ℕ) where
+-- Of a source in which so many labels wait: nothing waits, or some entries from the right end on.
+module _ (q : Queue) (rests : Rests q) (n : ℕ) (all : n ≡ length (waitingLabels (q .tables))) where
   abbrev t : Tables
   t = q .tables
 
   abbrev end : ℕ
   end = anchorIn q .right
 
-  abbrev f : ℕ → ℕ
-  f = labelVia (t .labels) slots
+  abbrev Path : List Entry → Type 0
+  Path = Trod (t .control .slots) (t .lefts) (t .labels) end
 
-  pub lane-rows : ((i : ℕ) → 1 ≤ i → i ≤ n → getD slots i 0 ≡ walkedTo (t .lefts) end i) → rowsDown f n ≡ waitingLabels (q .tables)
-  lane-rows at = split (isEmpty (anchorIn q)) none some
+  lane : (P : Type 0) → (contents t ≡ entries [] → P) → ((l : List Entry) → Path l → contents t ≡ walkFrom 1 (entries l) → n ≡ length l → P) → P
+  lane P none some =
+      split (isEmpty (anchorIn q)) (λ e. none (empty t e)) (λ e. go _ refl (from-right t e (ap (λ (s : ℕ). eqb s 2) (rests .stable))))
     where
-      none : isEmpty (anchorIn q) ≡ true → rowsDown f n ≡ names (met (contents t))
-      none e =
-          let w = ap (λ (z : Walk). names (met z)) (empty t e) in
-          ap (rowsDown f) (all ∙ ap length w) ∙ sym w
+      go : (w : Walk) → along (t .control .slots) (t .lefts) (t .labels) (anchorIn q .left) (t .control .slots) end ≡ w → contents t ≡ walkFrom 1 w → P
+      go broken e c = absurd (not-both (ap isBroken c) (rests .walks))
+      go (entries l) e c =
+          some l (trod (t .control .slots) (t .lefts) (t .labels) (anchorIn q .left) (t .control .slots) end l e) c
+          (all ∙ ap (λ (z : Walk). length (names (met z))) c ∙ length-map (reverse l) (λ (e : Entry). e .label) ∙ length-reverse l)
 
-      walked : (w : Walk) → along (t .control .slots) (t .lefts) (t .labels) (anchorIn q .left) (t .control .slots) end ≡ w → contents t ≡ walkFrom 1 w
-          → rowsDown f n ≡ names (met (contents t))
-      walked broken e c = absurd (not-both (ap isBroken c) (rests .walks))
-      walked (entries l) e c =
-          let w = ap (λ (z : Walk). names (met z)) c in
-          let size = all ∙ ap length w ∙ length-map (reverse l) (λ (e : Entry). e .label) ∙ length-reverse l in
-          let path = trod (t .control .slots) (t .lefts) (t .labels) (anchorIn q .left) (t .control .slots) end l e in
-          let rows : 0 + length l ≡ n = omega (arith, size) in
-          ap (rowsDown f) (sym rows)
-          ∙ sym (turned (t .lefts) (t .labels) f end l path 0 []
-          (λ j h. let s : suc (0 + j) ≡ suc j = omega arith in let p : suc j - 1 ≡ j = omega arith in
-          ap f s ∙ ap (λ (x : ℕ). getD (t .labels) x 0)
-          (at (suc j) (omega arith) (omega (arith, size)) ∙ walked-at j p)) refl)
-          ∙ sym w
-        where
-          walked-at : (j : ℕ) → suc j - 1 ≡ j → walkedTo (t .lefts) end (suc j) ≡ trail (t .lefts) end j
-          walked-at j p = ap (trail (t .lefts) end) p
+  -- Its slots have rows among the links.
+  pub lane-in-rows : InRows (t .lefts) end n
+  lane-in-rows k h =
+      lane (trail (t .lefts) end k < length (t .lefts)) (λ e. absurd (let z = all ∙ ap (λ (z : Walk). length (names (met z))) e in omega (arith, h, z)))
+      (λ l path c size. let low = stays (t .control .slots) (t .lefts) (t .labels) (anchorIn q .left) end l path k (omega (arith, h, size)) in
+      omega (arith, low, rests .rows))
 
-      some : isEmpty (anchorIn q) ≡ false → rowsDown f n ≡ names (met (contents t))
-      some e = walked _ refl (from-right t e (ap (λ (s : ℕ). eqb s 2) (rests .stable)))
+  module _ (slots : List ℕ) where
+    abbrev f : ℕ → ℕ
+    f = labelVia (t .labels) slots
+
+    -- The labels waiting are what the rows lead to, from the last one down.
+    pub lane-rows : ((i : ℕ) → 1 ≤ i → i ≤ n → getD slots i 0 ≡ walkedTo (t .lefts) end i) → rowsDown f n ≡ waitingLabels (q .tables)
+    lane-rows at = lane (rowsDown f n ≡ names (met (contents t))) none some
+      where
+        none : contents t ≡ entries [] → rowsDown f n ≡ names (met (contents t))
+        none e =
+            let w = ap (λ (z : Walk). names (met z)) e in
+            ap (rowsDown f) (all ∙ ap length w) ∙ sym w
+
+        walked-at : (j : ℕ) → suc j - 1 ≡ j → walkedTo (t .lefts) end (suc j) ≡ trail (t .lefts) end j
+        walked-at j p = ap (trail (t .lefts) end) p
+
+        some : (l : List Entry) → Path l → contents t ≡ walkFrom 1 (entries l) → n ≡ length l → rowsDown f n ≡ names (met (contents t))
+        some l path c size =
+            let w = ap (λ (z : Walk). names (met z)) c in
+            let rows : 0 + length l ≡ n = omega (arith, size) in
+            ap (rowsDown f) (sym rows)
+            ∙ sym (turned (t .control .slots) (t .lefts) (t .labels) f end l path 0 []
+            (λ j h. let s : suc (0 + j) ≡ suc j = omega arith in let p : suc j - 1 ≡ j = omega arith in
+            ap f s ∙ ap (λ (x : ℕ). getD (t .labels) x 0)
+            (at (suc j) (omega arith) (omega (arith, size)) ∙ walked-at j p)) refl)
+            ∙ sym w
 
 module _ (a b q : Queue) where
   -- Refused: nothing changes.
@@ -137,6 +140,10 @@ module _ (a b q : Queue) where
           nil : (l : List ℕ) → length l ≡ 0 → l ≡ []
           nil [] z = refl
           nil (x ∷ l) z = absurd (omega arith)
+
+      -- So have the slots of both.
+      pub both-in-rows : InRows (a .tables .lefts) (anchorIn a .right) n × InRows (b .tables .lefts) (anchorIn b .right) m
+      both-in-rows = let g = accepted a b q e .0 in (lane-in-rows a (g .first) n in-first, lane-in-rows b (g .second) m in-second)
 
       -- The scratch, and the lanes that it leads to.
       abbrev scratch1 : List ℕ

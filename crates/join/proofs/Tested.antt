@@ -1,21 +1,12 @@
 -- The tests of 47 that are loops: one entry more, or one that fails.
-use mathlib.Core.Path.{_≡_, refl, sym, ap, _∙_}
-use mathlib.Core.Bool.{Bool, true, false, _&&_, not}
-use mathlib.Core.List.{List, [], _∷_}
-use mathlib.Core.Logic.{_≢_}
+use mathlib.Core.{Path.{_≡_, refl, sym, ap, _∙_}, Bool.{Bool, true, false, _&&_, not}, List.{List, [], _∷_}, Logic._≢_}
 use Prim.Native.Nat.{ℕ, zero, suc, _+_, _-_, _<_, _≤_}
-use native.Mathlib.Numerals.{add-one}
-use native.Mathlib.Omega.{arith}
-use lib.Bits.{bitOr, or-zero-l, or-add-and, and-le-r}
-use lib.Dec.{eqb, ltb}
-use lib.ListN.{length, getD, List·getD-eq-default}
+use native.Mathlib.{Numerals.add-one, Omega.arith}
+use lib.{Bits.{bitOr, or-zero-l, or-add-and, and-le-r}, Dec.{eqb, ltb}, ListN.{length, getD, List·getD-eq-default}}
 use borrow.Author.Tests.{ne-eqb, eqb-true, eqb-false, ltb-true, ltb-false}
-use Rattle.model.specs.declared.Record.{Record}
-use Rattle.model.specs.Tables.{unused}
+use Rattle.model.specs.{declared.Record.Record, Tables.unused, Lists.{every, count}}
 use Rattle.model.proofs.tests.Truth.{split, not-both}
-use Rattle.model.specs.Lists.{every, count}
-use Rattle.join_model.specs.Join.{blank}
-use Rattle.join_model.proofs.Fresh.{none-pass}
+use Rattle.join_model.{specs.Join.blank, proofs.Fresh.none-pass}
 use Rattle.join.specs.Stages.{least}
 
 -- Seven tests, made one after the other.

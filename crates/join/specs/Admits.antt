@@ -2,8 +2,7 @@
 use mathlib.Core.Path.{_≡_}
 use lib.ListN.{length}
 use Rattle.model.specs.Tables.{Queue}
-use Rattle.walk.specs.declared.Tally.{Tally}
-use Rattle.walk.specs.declared.Tally.the-variants.{Broken, Labels}
+use Rattle.walk.specs.declared.Tally.{Tally, the-variants.{Broken, Labels}}
 use Rattle.stock_model.specs.Accounts.{waitingLabels}
 use Rattle.join_model.specs.Closed.{closedRefusal}
 use Rattle.join.specs.declared.admit.Admission.{Admission}

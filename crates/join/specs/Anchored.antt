@@ -1,14 +1,10 @@
 -- Control after the pushes, and what the joining by value leaves.
-use mathlib.Core.Path.{_≡_}
-use mathlib.Core.Bool.{false, cond}
-use mathlib.Core.List.{List}
+use mathlib.Core.{Path._≡_, Bool.{false, cond}, List.List}
 use Prim.Native.Nat.{ℕ}
 use lib.ListN.{set}
 use Rattle.word.specs.Anchor.{anchorOf, packAnchor}
-use Rattle.model.specs.declared.Control.{Control}
-use Rattle.model.specs.Tables.{Queue, queueOf, idle, withCall, taskAt, withWords}
-use Rattle.join_model.specs.Join.{Joined, join, laid}
-use Rattle.join_model.specs.Closed.{tagAfter}
+use Rattle.model.specs.{declared.Control.Control, Tables.{Queue, queueOf, idle, withCall, taskAt, withWords}}
+use Rattle.join_model.specs.{Join.{Joined, join, laid}, Closed.tagAfter}
 use Rattle.join.specs.declared.Done.{Done}
 
 -- The Anchor of n labels in slots 1 to n.

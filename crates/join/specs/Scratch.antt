@@ -1,9 +1,7 @@
 -- What the third's link tables hold while the labels are merged: the slots of a lane, read from its right end.
-use mathlib.Core.Bool.{cond}
-use mathlib.Core.List.{List, [], _∷_}
-use Prim.Native.Nat.{ℕ, zero, suc, _-_}
-use lib.Dec.{ltb}
-use lib.ListN.{getD}
+use mathlib.Core.{Bool.cond, List.{List, [], _∷_}}
+use Prim.Native.Nat.{ℕ, zero, suc, _-_, _<_}
+use lib.{Dec.ltb, ListN.{getD, length}}
 use Rattle.word.specs.Link.{linkOf}
 use Rattle.join_model.specs.Closed.{rightOf}
 
@@ -11,6 +9,10 @@ use Rattle.join_model.specs.Closed.{rightOf}
 unfoldable pub trail : List ℕ → ℕ → ℕ → ℕ
 trail links x zero = x
 trail links x (suc n) = trail links (linkOf (getD links x 0) .slot) n
+
+-- The first n slots of it have rows among the links.
+abbrev pub InRows : List ℕ → ℕ → ℕ → Type 0
+InRows links x n = (k : ℕ) → k < n → trail links x k < length links
 
 -- Row k: the k-th slot of a walk that begins at a slot.
 abbrev pub walkedTo : List ℕ → ℕ → ℕ → ℕ

@@ -1,11 +1,8 @@
 -- The rules of the joining by stages, over tests already made.
-use mathlib.Core.Bool.{Bool, not, cond}
-use mathlib.Core.List.{[], _∷_}
+use mathlib.Core.{Bool.{Bool, not, cond}, List.{[], _∷_}}
 use Prim.Native.Nat.{ℕ}
 use lib.Dec.{ltb, leb}
-use Rattle.model.specs.declared.Control.{Control}
-use Rattle.model.specs.Refusals.{rule, first}
-use Rattle.model.specs.Lists.{every}
+use Rattle.model.specs.{declared.Control.Control, Refusals.{rule, first}, Lists.every}
 use Rattle.sound.specs.declared.Lengths.{Lengths}
 
 -- The smaller of two numbers.

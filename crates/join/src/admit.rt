@@ -4,21 +4,15 @@ use model::Control;
 use sound::Lengths;
 use walk::Tally;
 use word::Anchor;
-ghost use mathlib.Core.Path.{_≡_};
-ghost use mathlib.Core.List.{List, [], _∷_};
+ghost use mathlib.Core.{Path._≡_, List.{List, [], _∷_}};
 ghost use Prim.Native.Nat.{ℕ, _+_, _≤_};
 ghost use lib.Dec.{ltb};
 ghost use Rattle.word.specs.Anchor.{anchorOf};
-ghost use Rattle.model.specs.Tables.{tablesOf, queueOf};
-ghost use Rattle.model.specs.Sound.{controlSound};
-ghost use Rattle.model.specs.Walk.{contents};
-ghost use Rattle.model.specs.Lists.{every};
+ghost use Rattle.model.specs.{Tables.{tablesOf, queueOf}, Sound.controlSound, Walk.contents, Lists.every};
 ghost use Rattle.walk.specs.Counted.{counted};
 ghost use Rattle.rows.specs.Rows.{recordsOf};
-ghost use Rattle.join_model.specs.Join.{atRest, fresh};
-ghost use Rattle.join_model.specs.Closed.{lateFor};
-ghost use Rattle.join.specs.Stages.{lengthsFit, testsRefusal, laterRefusal};
-ghost use Rattle.join.specs.Admits.{walked, Admits};
+ghost use Rattle.join_model.specs.{Join.{atRest, fresh}, Closed.lateFor};
+ghost use Rattle.join.specs.{Stages.{lengthsFit, testsRefusal, laterRefusal}, Admits.{walked, Admits}};
 
 // The highest Anchor tag that a start is accepted at.
 const LAST_TAG: u64 = 4294967262;
@@ -88,7 +82,7 @@ fn later_refusal(rest: bool, slots: u64, tag: u64, first: u64, second: u64) -> u
 }
 
 /// The rules before the walks. The tables are given by their lengths.
-fn early_rules(
+fn table_rules(
     first: Control,
     second: Control,
     third: Control,
@@ -239,7 +233,7 @@ pub fn admit(
     let b = lengths_fit(second, two);
     let c = lengths_fit(third, into);
     let enough = c & (third.slots / 64 < into.marks as u64);
-    let why = early_rules(first, second, third, a, b, enough);
+    let why = table_rules(first, second, third, a, b, enough);
     if why != 0 {
         return refused(why);
     }

@@ -2,17 +2,15 @@
 use model::Control;
 use word::Anchor;
 use word::Link;
-ghost use mathlib.Core.Path.{_≡_};
-ghost use mathlib.Core.List.{_∷_};
+ghost use mathlib.Core.{Path._≡_, List._∷_};
 ghost use Prim.Native.Nat.{ℕ, _+_, _≤_, _<_};
-ghost use Rattle.word.specs.Anchor.{anchorOf};
-ghost use Rattle.word.specs.Link.{packLink};
-ghost use Rattle.join_model.specs.Merge.{merge};
-ghost use Rattle.join_model.specs.Closed.{filled, leftOf, labelOf, markedTo};
-ghost use Rattle.join.specs.Scratch.{rowsDown, walkedTo, labelVia, rightTo};
+ghost use Rattle.word.specs.{Anchor.anchorOf, Link.packLink};
+ghost use Rattle.join_model.specs.{Merge.merge, Closed.{filled, leftOf, labelOf, markedTo}};
+ghost use Rattle.join.specs.Scratch.{InRows, rowsDown, walkedTo, labelVia, rightTo};
 
 /// Rows 1 to n: the slots of a queue from its right end along Left links.
 fn gather(n: u64, end: u64, links: &[u64], out: &mut [u64])
+    requires { ⌜ InRows (now links) end n ⌝ }
     ensures { λ _. ⌜ now (out .exit) ≡ filled (walkedTo (now (links .entry)) end) n (now (out .entry)) ⌝ }
 {
     let mut k: u64 = 0;
@@ -20,9 +18,7 @@ fn gather(n: u64, end: u64, links: &[u64], out: &mut [u64])
     while k < n {
         k += 1;
         table::put_word(out, k, x);
-        let w = table::word_at(links, x);
-        let link = Link::unpack(w);
-        x = link.slot;
+        x = walk::follow(links, x);
     }
 }
 
@@ -152,7 +148,8 @@ pub fn fill(
     labels: &mut [u32],
     marks: &mut [u64],
 )
-    requires { ⌜ n + m ≤ 1023 ⌝ }
+    requires { ⌜ (n + m ≤ 1023)
+        × (InRows (now lefts1) (anchorOf (first .anchor) .right) n × InRows (now lefts2) (anchorOf (second .anchor) .right) m) ⌝ }
     ensures { λ _.
         ⌜ now (lefts .exit)
         ≡ filled leftOf (n + m) (filled (walkedTo (now (lefts1 .entry)) (anchorOf (first .anchor) .right)) n (now (lefts .entry))) ⌝ }

@@ -1,9 +1,7 @@
 //! Two queues at rest joined in a third that is fresh.
 use model::Control;
 use word::Anchor;
-ghost use mathlib.Core.Path.{_≡_};
-ghost use mathlib.Core.Bool.{cond};
-ghost use mathlib.Core.List.{List};
+ghost use mathlib.Core.{Path._≡_, Bool.cond, List.List};
 ghost use Prim.Native.Nat.{ℕ, _≤_};
 ghost use lib.ListN.{set};
 ghost use Rattle.word.specs.Anchor.{anchorOf};

@@ -1,14 +1,10 @@
 // Whether a queue is at rest, and whether the third is fresh: what 47 asks.
 use model::Control;
 use word::Anchor;
-ghost use mathlib.Core.Path.{_≡_};
-ghost use mathlib.Core.Bool.{not};
-ghost use mathlib.Core.List.{List};
+ghost use mathlib.Core.{Path._≡_, Bool.not, List.List};
 ghost use Prim.Native.Nat.{ℕ, _≤_};
-ghost use lib.Dec.{eqb};
-ghost use lib.ListN.{getD};
-ghost use Rattle.model.specs.Tables.{queueOf, unused};
-ghost use Rattle.model.specs.Lists.{count};
+ghost use lib.{Dec.eqb, ListN.getD};
+ghost use Rattle.model.specs.{Tables.{queueOf, unused}, Lists.count};
 ghost use Rattle.rows.specs.Rows.{recordsOf};
 ghost use Rattle.join_model.specs.Join.{atRest, blank, fresh};
 ghost use Rattle.join.specs.Stages.{least};

@@ -1,23 +1,16 @@
 -- A push at the right by a task alone, place by place: what a step leaves of tables and record.
-use mathlib.Core.Path.{_≡_, refl}
-use mathlib.Core.Bool.{true, false}
+use mathlib.Core.{Path.{_≡_, refl}, Bool.{true, false}}
 use Prim.Native.Nat.{ℕ, _+_}
 use native.Mathlib.Omega.{arith}
-use lib.Dec.{eqb, leb, ltb}
-use lib.ListN.{getD}
+use lib.{Dec.{eqb, leb, ltb}, ListN.getD}
 use borrow.Author.Tests.{eq-eqb, le-leb}
-use Rattle.word.specs.declared.Anchor.{Anchor}
-use Rattle.word.specs.Anchor.{anchorOf, packAnchor}
-use Rattle.word.specs.Link.{linkOf, packLink}
-use Rattle.model.specs.declared.Record.{Record}
-use Rattle.model.specs.declared.Answer.the-variants.{Running, Pushed}
-use Rattle.model.specs.declared.Outcome.the-variants.{Moved}
+use Rattle.word.specs.{declared.Anchor.Anchor, Anchor.{anchorOf, packAnchor}, Link.{linkOf, packLink}}
+use Rattle.model.specs.declared.{Record.Record, Answer.the-variants.{Running, Pushed}, Outcome.the-variants.Moved}
 use Rattle.model.specs.Tables.{Tables, isPooled, idle, withAnchor, withSeen, withNeighbour, newCall, counting}
 use Rattle.model.specs.Sound.{from1, anchorSound, linkSound, controlSound, recordSound, rowsFit}
-use Rattle.model.specs.Places.{sideOf, row, linkSide, move, reading, at1, at2, at3, new4, at4, at5, at6, at7, at9, at10, setLink, apply}
-use Rattle.model.specs.Route.{pushRoute, route, onward, answer, goes, counted}
-use Rattle.model.specs.Refusals.{stepRefusal, stepSound}
-use Rattle.model.specs.Calls.{Acted, step, finish, stepLent}
+use Rattle.model.specs.Places.{sideOf, row, linkSide, move, reading, at1, at2, at3, new4, at4, at5, at6, at7, at9, at10}
+use Rattle.model.specs.{Places.{setLink, apply}, Route.{pushRoute, route, onward, answer, goes, counted}}
+use Rattle.model.specs.{Refusals.{stepRefusal, stepSound}, Calls.{Acted, step, finish, stepLent}}
 
 -- The record of a push at the right, with its task's count: no change of a task alone fails.
 abbrev pub at : ℕ → ℕ → ℕ → ℕ → ℕ → ℕ → ℕ → Record

@@ -1,22 +1,15 @@
 -- The joining by pushes is the joining word by word.
-use mathlib.Core.Path.{_≡_, refl, sym, ap, _∙_}
-use mathlib.Core.Bool.{Bool, true, false, cond}
-use mathlib.Core.List.{List, [], _∷_, _++_}
-use Prim.Native.Nat.{ℕ, _≤_}
+use mathlib.Core.{Path.{_≡_, refl, sym, ap, _∙_}, Bool.{Bool, true, false, cond}, List.{List, [], _∷_, _++_}}
+use Prim.Native.Nat.{ℕ, _<_, _≤_}
 use lib.{Dec.eqb, ListN.length}
-use borrow.Author.Tests.{eqb-true, ltb-false, not-false}
-use Rattle.model.specs.{Tables.Queue, Report.busy, History.run, Lists.All}
-use Rattle.model.specs.Walk.{contents, isBroken}
-use Rattle.model.specs.Refusals.{Rule, rule, first}
-use Rattle.model.proofs.tests.Rules.{tests, cleared}
-use Rattle.model.proofs.tests.Truth.{and-true, split}
-use Rattle.join_model.specs.Join.{anchorIn, lanes, pushes, outcomes, anyLate, sourceFits, thirdFits, atRest, fresh}
-use Rattle.join_model.specs.Join.{earlyRules, joinRules, joinRefusal, Joined, joined, join}
+use borrow.Author.Tests.{eqb-true, ltb-false, ltb-true, not-false}
+use Rattle.model.specs.{Tables.Queue, Report.busy, History.run, Lists.All, Walk.{contents, isBroken}}
+use Rattle.model.{specs.Refusals.{Rule, rule, first}, proofs.tests.{Rules.{tests, cleared}, Truth.{and-true, split}}}
+use Rattle.join_model.specs.Join.{anchorIn, lanes, pushes, outcomes, anyLate, sourceTests, sourceFits, thirdFits}
+use Rattle.join_model.specs.Join.{atRest, fresh, rulesBefore33, joinRules, joinRefusal, Joined, joined, join}
 use Rattle.join_model.specs.Closed.{lateFor, held, holding, closedRefusal, joinClosed}
 use Rattle.join_model.specs.Laws.{ClosedForm, AllAnswered, NotLent, answers, besides}
-use Rattle.join_model.proofs.Fresh.{Fresh, is-fresh}
-use Rattle.join_model.proofs.Ran.{Ran}
-use Rattle.join_model.proofs.Lanes.{late-is, pushed-is}
+use Rattle.join_model.proofs.{Fresh.{Fresh, is-fresh}, Ran.Ran, Lanes.{late-is, pushed-is}}
 
 -- A last rule counts only where none before it applies.
 same-last : (l : List Rule) (n : ℕ) (b c : Bool) → (first l ≡ 0 → b ≡ c) → first (l ++ (rule n b ∷ [])) ≡ first (l ++ (rule n c ∷ []))
@@ -28,8 +21,9 @@ same-last (r ∷ l) n b c h = go (r .applies) refl (λ g. same-last l n b c g)
     go true e more = rw e
     go false e more = rw e (more (λ z. h (rw e z)))
 
--- What the rules before 33 leave: of a source, that it is STABLE and its walk is not broken.
+-- What the rules before 33 leave: of a source, that its Left words are there, it is STABLE and its walk is not broken.
 pub record Rests (q : Queue) : Type 0 where
+  pub rows : q .tables .control .slots < length (q .tables .lefts)
   pub stable : anchorIn q .status ≡ 0
   pub walks : isBroken (contents (q .tables)) ≡ false
 
@@ -39,19 +33,23 @@ pub record Admitted (a b q : Queue) : Type 0 where
   pub third : Fresh q
   pub room : length (lanes a b) ≤ q .tables .control .slots
 
-rests : (q : Queue) → atRest q ≡ true → isBroken (contents (q .tables)) ≡ false → Rests q
-unfolding atRest
-rests q e w = record { stable = eqb-true _ _ (and-true (eqb (busy q) 0) (eqb (anchorIn q .status) 0) e .1); walks = w }
+rests : (q : Queue) → sourceFits q ≡ true → atRest q ≡ true → isBroken (contents (q .tables)) ≡ false → Rests q
+unfolding sourceFits atRest
+rests q f e w = record {
+  rows = ltb-true _ _ (tests (sourceTests q) f .0);
+  stable = eqb-true _ _ (and-true (eqb (busy q) 0) (eqb (anchorIn q .status) 0) e .1);
+  walks = w;
+}
 
-admit : (a b q : Queue) (more : List Rule) → All (λ (r : Rule). r .applies ≡ false) (earlyRules a b q ++ more) → Admitted a b q
+admit : (a b q : Queue) (more : List Rule) → All (λ (r : Rule). r .applies ≡ false) (rulesBefore33 a b q ++ more) → Admitted a b q
 admit a b q more z =
     let later = z .1 .1 .1 in
+    let fit = tests (sourceFits a ∷ sourceFits b ∷ thirdFits q ∷ []) (not-false _ (later .0)) in
     let rest = tests (atRest a ∷ atRest b ∷ fresh q ∷ []) (not-false _ (later .1 .1 .1 .0)) in
     record {
-      first = rests a (rest .0) (later .1 .0);
-      second = rests b (rest .1 .0) (later .1 .1 .0);
-      third =
-          is-fresh q (not-false _ (z .1 .1 .0)) (tests (sourceFits a ∷ sourceFits b ∷ thirdFits q ∷ []) (not-false _ (later .0)) .1 .1 .0) (rest .1 .1 .0);
+      first = rests a (fit .0) (rest .0) (later .1 .0);
+      second = rests b (fit .1 .0) (rest .1 .0) (later .1 .1 .0);
+      third = is-fresh q (not-false _ (z .1 .1 .0)) (fit .1 .1 .0) (rest .1 .1 .0);
       room = ltb-false _ _ (later .1 .1 .1 .1 .0);
     }
 
@@ -60,8 +58,8 @@ module _ (a b q : Queue) where
   pub same-refusal : joinRefusal a b q ≡ closedRefusal a b q
   unfolding joinRefusal closedRefusal
   same-refusal =
-      same-last (earlyRules a b q) 33 (anyLate (outcomes (run q (pushes 1 (lanes a b))))) (lateFor (anchorIn q .tag) (length (lanes a b)))
-      (λ e. let g = admit a b q [] (cleared (earlyRules a b q) refl e) in late-is q (g .third) (lanes a b) (g .room))
+      same-last (rulesBefore33 a b q) 33 (anyLate (outcomes (run q (pushes 1 (lanes a b))))) (lateFor (anchorIn q .tag) (length (lanes a b)))
+      (λ e. let g = admit a b q [] (cleared (rulesBefore33 a b q) refl e) in late-is q (g .third) (lanes a b) (g .room))
 
   abbrev late : Bool
   late = lateFor (anchorIn q .tag) (length (lanes a b))

@@ -1,14 +1,9 @@
 -- Rows filled from 1 up: the rows beyond, the rows filled, the length.
-use mathlib.Core.Path.{_≡_, refl, _∙_}
-use mathlib.Core.List.{List}
-use mathlib.Core.Logic.{_≢_, _⊎_, inl, inr}
+use mathlib.Core.{Path.{_≡_, refl, _∙_}, List.List, Logic.{_≢_, _⊎_, inl, inr}}
 use Prim.Native.Nat.{ℕ, zero, suc, _/_, _<_, _≤_}
 use native.Mathlib.Omega.{arith}
-use lib.ListN.{length, getD, length-set}
-use lib.Seq.{getD-set-same, getD-set-other}
-use Rattle.model.specs.Tables.{marked}
-use Rattle.model.proofs.tests.Truth.{decide-eq}
-use Rattle.model.proofs.bridge.Marks.{marked-other}
+use lib.{ListN.{length, getD, length-set}, Seq.{getD-set-same, getD-set-other}}
+use Rattle.model.{specs.Tables.marked, proofs.{tests.Truth.decide-eq, bridge.Marks.marked-other}}
 use Rattle.join_model.specs.Closed.{filled, markedTo}
 
 pub filled-length : (f : ℕ → ℕ) (n : ℕ) (l : List ℕ) → length (filled f n l) ≡ length l

@@ -1,17 +1,12 @@
 -- A fresh queue, word by word.
-use mathlib.Core.Path.{_≡_, refl}
-use mathlib.Core.Bool.{Bool, true, false}
-use mathlib.Core.List.{List}
+use mathlib.Core.{Path.{_≡_, refl}, Bool.{Bool, true, false}, List.List}
 use Prim.Native.Nat.{ℕ, zero, suc, _+_, _/_, _%_, _^_, _<_, _≤_}
 use native.Mathlib.{Nat.zero-div, Omega.arith}
 use lib.{Dec.eqb, ListN.getD}
 use borrow.Author.Tests.{eqb-true, eqb-false, not-true, not-false}
-use Rattle.model.specs.Tables.{Queue, isPooled, marked, recordAt}
+use Rattle.model.specs.{Tables.{Queue, isPooled, marked, recordAt}, Refusals.recordsFit, Report.busy, Lists.count}
 use Rattle.model.specs.Sound.{controlTests, controlSound, rowTests, rowsFit}
-use Rattle.model.specs.{Refusals.recordsFit, Report.busy, Lists.count}
-use Rattle.model.proofs.tests.Rules.{_and_, tests, passes}
-use Rattle.model.proofs.tests.Truth.{and-true, split}
-use Rattle.model.proofs.bridge.Facts.{from1-true}
+use Rattle.model.proofs.{tests.{Rules.{_and_, tests, passes}, Truth.{and-true, split}}, bridge.Facts.from1-true}
 use Rattle.join_model.specs.Join.{anchorIn, atRest, blank, freshTests, fresh, sourceTests, sourceFits, thirdFits}
 use Rattle.join_model.specs.Laws.{Zeros}
 

@@ -1,22 +1,16 @@
 -- All labels pushed by task 0 alone: the closed form, the outcomes, and 33 by the tag at the last start.
-use mathlib.Core.Path.{_≡_, refl, ap, subst, _∙_}
-use mathlib.Core.Bool.{Bool, true, false, _||_}
-use mathlib.Core.List.{List, [], _∷_, _++_}
+use mathlib.Core.{Path.{_≡_, refl, ap, subst, _∙_}, Bool.{Bool, true, false, _||_}, List.{List, [], _∷_, _++_}}
 use Prim.Native.Nat.{ℕ, suc, _+_, _-_, _<_, _≤_}
 use native.Mathlib.Omega.{arith}
-use lib.Dec.{ltb}
-use lib.ListN.{length, getD}
+use lib.{Dec.ltb, ListN.{length, getD}}
 use borrow.Author.Tests.{ne-eqb, ltb-true, ltb-false, lt-ltb}
 use Rattle.word.specs.declared.Anchor.{Anchor}
-use Rattle.model.specs.declared.Outcome.{Outcome}
-use Rattle.model.specs.Tables.{Queue}
-use Rattle.model.specs.History.{Request, run, final}
+use Rattle.model.specs.{declared.Outcome.Outcome, Tables.Queue, History.{Request, run, final}}
 use Rattle.model.proofs.tests.Truth.{split, or-false}
 use Rattle.join_model.specs.Join.{anchorIn, pushAlone, pushes, outcomes, anyLate}
 use Rattle.join_model.specs.Laws.{answersOne, answersNext, answersMore, answers}
 use Rattle.join_model.specs.Closed.{labelOf, tagAfter, held, holding, lateFor}
-use Rattle.join_model.proofs.Ran.{Ran, ran-none, ran-on}
-use Rattle.join_model.proofs.{Pushed.turned-away, Fresh.Fresh}
+use Rattle.join_model.proofs.{Ran.{Ran, ran-none, ran-on}, Pushed.turned-away, Fresh.Fresh}
 use Rattle.join_model.proofs.Pushes.{ready, begins, prepared, held-reads, one-more}
 
 -- The labels l are those of f from k on.

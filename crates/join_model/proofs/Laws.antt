@@ -1,22 +1,17 @@
 -- The laws of the joining.
-use mathlib.Core.Path.{_≡_, refl, sym, ap, _∙_}
-use mathlib.Core.Bool.{false, not}
-use mathlib.Core.List.{List, [], _∷_, _++_}
+use mathlib.Core.{Path.{_≡_, refl, sym, ap, _∙_}, Bool.{false, not}, List.{List, [], _∷_, _++_}}
 use Prim.Native.Nat.{ℕ, zero, suc, _-_, _≤_}
 use native.Mathlib.Omega.{arith}
 use lib.{Dec.ltb, ListN.length}
 use borrow.Author.Tests.{ne-eqb, ltb-false}
-use Rattle.model.specs.{Tables.Queue, Calls.openAs}
-use Rattle.model.specs.Walk.{contents, entries, isBroken, met}
+use Rattle.model.specs.{Tables.Queue, Calls.openAs, Walk.{contents, entries, isBroken, met}}
 use Rattle.model.specs.History.{Request, final, run}
-use Rattle.model.proofs.tests.Rules.{_and_, never}
-use Rattle.model.proofs.{Standing.standing, Linearizable.linearizable, Never34.never-34}
-use Rattle.stock_model.specs.Accounts.{waitingLabels}
-use Rattle.stock_model.proofs.Accounts.{every-label, stock-taking}
+use Rattle.model.proofs.{tests.Rules.{_and_, never}, Standing.standing, Linearizable.linearizable, Never34.never-34}
+use Rattle.stock_model.{specs.Accounts.waitingLabels, proofs.Accounts.{every-label, stock-taking}}
 use Rattle.join_model.specs.Join.{anchorIn, anyLate, lanes, outcomes, pushes, joinRefusal, joinRules, join}
 use Rattle.join_model.specs.Closed.{tagAfter, lateFor, holding, closedRefusal}
-use Rattle.join_model.specs.Laws.{OwnOrder, StaysAscending, TieToFirst, SameCopies, RefusalKeeps, Zeros, OnlyFresh, JoinedWait, numbered, Continues}
-use Rattle.join_model.specs.Laws.{JoinNever34, StandingJoinings}
+use Rattle.join_model.specs.Laws.{OwnOrder, StaysAscending, TieToFirst, SameCopies, RefusalKeeps, Zeros, numbered}
+use Rattle.join_model.specs.Laws.{OnlyFresh, JoinedWait, Continues, JoinNever34, StandingJoinings}
 use Rattle.join_model.proofs.{Ran.final-on, Fresh.Fresh, Waits.held-waits}
 use Rattle.join_model.proofs.Closed.{same-refusal, accepted, joins}
 use Rattle.join_model.proofs.Merged.{interleaved, ascending, tie, copies-merged}

@@ -1,12 +1,10 @@
 -- The merge: each list in its own order, nothing lost, ascending where both are.
-use mathlib.Core.Path.{_≡_, refl}
-use mathlib.Core.List.{List, [], _∷_}
+use mathlib.Core.{Path.{_≡_, refl}, List.{List, [], _∷_}}
 use Prim.Native.Nat.{ℕ, _+_}
 use native.Mathlib.Omega.{arith}
 use lib.ListN.{length}
 use borrow.Author.Tests.{leb-true, leb-false}
-use Rattle.model.proofs.tests.Truth.{by-test}
-use Rattle.model.specs.Lists.{copies}
+use Rattle.model.{proofs.tests.Truth.by-test, specs.Lists.copies}
 use Rattle.join_model.specs.Merge.{firstGoes, merge, Interleaved, neither, ofFirst, ofSecond, AtLeast, Ascending}
 
 all-first : (xs : List ℕ) → Interleaved xs [] xs

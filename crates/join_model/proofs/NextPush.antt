@@ -1,29 +1,18 @@
 -- One push by task 0 alone on a queue that is not empty: nine steps.
-use mathlib.Core.Path.{_≡_, refl, ap, _∙_}
-use mathlib.Core.Bool.{true, false}
-use mathlib.Core.List.{[], _∷_}
+use mathlib.Core.{Path.{_≡_, refl, ap, _∙_}, Bool.{true, false}, List.{[], _∷_}}
 use Prim.Native.Nat.{ℕ, suc, _+_, _<_, _≤_, _^_}
 use native.Mathlib.Omega.{arith}
-use lib.Dec.{eqb, leb, ltb}
-use lib.ListN.{length, getD, replicate, length-set}
-use lib.Seq.{getD-set-same}
+use lib.{Dec.{eqb, leb, ltb}, ListN.{length, getD, replicate, length-set}, Seq.getD-set-same}
 use borrow.Author.Tests.{eq-eqb, ne-eqb, le-leb, ltb-true, ltb-false}
-use Rattle.word.specs.declared.Anchor.{Anchor}
-use Rattle.word.specs.Anchor.{anchorOf, packAnchor}
-use Rattle.word.specs.Link.{packLink}
-use Rattle.word.proofs.Laws.{unpack-pack}
-use Rattle.model.specs.declared.Answer.the-variants.{Running, Pushed}
-use Rattle.model.specs.declared.Outcome.the-variants.{Moved}
-use Rattle.model.specs.declared.Op.the-variants.{Push, Step}
-use Rattle.model.specs.Tables.{Tables, Queue, idle, withCall, taskAt, withAnchor}
-use Rattle.model.specs.Sound.{anchorSound, rowTests, rowsFit}
-use Rattle.model.specs.Places.{setLink, apply}
-use Rattle.model.proofs.tests.{Rules.tests, Truth.and-of}
-use Rattle.model.proofs.unsound.Tests.{anchor-sound, link-sound}
+use Rattle.word.{specs.{declared.Anchor.Anchor, Anchor.{anchorOf, packAnchor}, Link.packLink}, proofs.Laws.unpack-pack}
+use Rattle.model.specs.declared.{Answer.the-variants.{Running, Pushed}, Outcome.the-variants.Moved}
+use Rattle.model.specs.{declared.Op.the-variants.{Push, Step}, Sound.{anchorSound, rowTests, rowsFit}}
+use Rattle.model.specs.{Tables.{Tables, Queue, idle, withCall, taskAt, withAnchor}, Places.{setLink, apply}}
+use Rattle.model.proofs.{tests.{Rules.tests, Truth.and-of}, unsound.Tests.{anchor-sound, link-sound}}
 use Rattle.join_model.specs.{Join.anchorIn, Closed.rightOf}
 use Rattle.join_model.proofs.Alone.{Able, at, step1, step3, step4, step5, step6, step7, step8, step9, step10}
-use Rattle.join_model.proofs.Ran.{Ran, ran-none, ran-more, stands, steps}
-use Rattle.join_model.proofs.Pushed.{Ready, control-kept, tries, first, long, low, high, starts, sound, still, room}
+use Rattle.join_model.proofs.{Ran.{Ran, ran-none, ran-more, stands, steps}, Pushed.room}
+use Rattle.join_model.proofs.Pushed.{Ready, control-kept, tries, first, long, low, high, starts, sound, still}
 
 module _ (q : Queue) (k label : ℕ) (r : Ready q k) (some : 1 ≤ k) (begun : anchorIn q .left ≡ 1) (early : ltb 4294967262 (anchorIn q .tag) ≡ false)
     (blankLeft : getD (q .tables .lefts) (suc k) 0 ≡ 0) (blankRight : getD (q .tables .rights) k 0 ≡ 0) where

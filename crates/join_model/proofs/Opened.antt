@@ -1,22 +1,14 @@
 -- An opening with named slots leaves a fresh queue.
-use mathlib.Core.Path.{_≡_, refl, ap, _∙_}
-use mathlib.Core.Bool.{true, false, not, cond}
-use mathlib.Core.List.{List, []}
+use mathlib.Core.{Path.{_≡_, refl, ap, _∙_}, Bool.{true, false, not, cond}, List.{List, []}}
 use Prim.Native.Nat.{ℕ, zero, suc, _+_, _/_, _<_, _≤_}
 use native.Mathlib.Omega.{arith}
-use lib.Dec.{eqb}
-use lib.ListN.{getD, replicate, drop, getD-replicate, length-replicate, List·getD-append}
+use lib.{Dec.eqb, ListN.{getD, replicate, drop, getD-replicate, length-replicate, List·getD-append}}
 use borrow.Author.Tests.{eq-eqb}
 use Rattle.word.specs.Anchor.{anchorOf, packAnchor, emptyAnchor}
-use Rattle.model.specs.declared.Record.{Record}
-use Rattle.model.specs.Tables.{Queue, unused}
-use Rattle.model.specs.{Calls.opened, Report.busy}
-use Rattle.model.proofs.Openings.{after-opening}
-use Rattle.model.proofs.tests.Rules.{_and_, passes}
-use Rattle.model.proofs.tests.Truth.{and-of}
+use Rattle.model.specs.{declared.Record.Record, Tables.{Queue, unused}, Calls.opened, Report.busy}
 use Rattle.model.specs.Lists.{zeroed, count}
-use Rattle.join_model.specs.Join.{atRest, blank, freshTests, fresh}
-use Rattle.join_model.specs.Laws.{OpenedFresh}
+use Rattle.model.proofs.{Openings.after-opening, tests.{Rules.{_and_, passes}, Truth.and-of}}
+use Rattle.join_model.specs.{Join.{atRest, blank, freshTests, fresh}, Laws.OpenedFresh}
 
 zeroed-at : {A : Type 0} (n : ℕ) (z d : A) (l : List A) (i : ℕ) → i < n → getD (zeroed n z l) i d ≡ z
 zeroed-at n z d l i h = List·getD-append (replicate n z) (drop n l) d i (omega (arith, length-replicate n z)) ∙ getD-replicate n i z d h

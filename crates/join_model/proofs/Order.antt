@@ -1,9 +1,6 @@
 -- The numbers of the refusals in their order, whatever the three queues. (Document 02, #113.)
-use mathlib.Core.Path.{_≡_, refl}
-use mathlib.Core.Bool.{Bool}
-use mathlib.Core.List.{[], _∷_}
-use Rattle.model.specs.Tables.{Queue}
-use Rattle.model.proofs.laws.Order.{numbers}
+use mathlib.Core.{Path.{_≡_, refl}, Bool.Bool, List.{[], _∷_}}
+use Rattle.model.{specs.Tables.Queue, proofs.laws.Order.numbers}
 use Rattle.join_model.specs.Join.{joinRules}
 
 pub order : (a b q : Queue) (late : Bool)

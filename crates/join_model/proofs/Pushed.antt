@@ -1,28 +1,18 @@
 -- One push by task 0 alone: what it leaves of the queue, and its outcomes.
-use mathlib.Core.Path.{_≡_, refl, _∙_}
-use mathlib.Core.Bool.{Bool, true, false, _||_, not}
-use mathlib.Core.List.{[], _∷_}
+use mathlib.Core.{Path.{_≡_, refl, _∙_}, Bool.{Bool, true, false, _||_, not}, List.{[], _∷_}}
 use Prim.Native.Nat.{ℕ, suc, _+_, _/_, _<_, _≤_}
 use native.Mathlib.Omega.{arith}
-use lib.Dec.{leb, ltb}
-use lib.ListN.{length, replicate, length-set}
+use lib.{Dec.{leb, ltb}, ListN.{length, replicate, length-set}}
 use borrow.Author.Tests.{eq-eqb, le-leb, lt-ltb, leb-true, ltb-false}
-use Rattle.word.specs.Anchor.{anchorOf, packAnchor}
-use Rattle.word.proofs.Laws.{unpack-pack}
-use Rattle.model.specs.declared.Answer.the-variants.{Running, Pushed}
-use Rattle.model.specs.declared.Outcome.the-variants.{Moved, Refused}
-use Rattle.model.specs.declared.Op.the-variants.{Push, Step}
+use Rattle.word.{specs.Anchor.{anchorOf, packAnchor}, proofs.Laws.unpack-pack}
+use Rattle.model.specs.declared.{Answer.the-variants.{Running, Pushed}, Outcome.the-variants.{Moved, Refused}}
+use Rattle.model.specs.{declared.Op.the-variants.{Push, Step}, Refusals.{recordsFit, startRefusal}, Lists.every}
 use Rattle.model.specs.Tables.{Tables, Queue, isPooled, idle, withCall, marked, recordAt, taskAt, withAnchor, withTaken}
 use Rattle.model.specs.Sound.{anchorSound, controlTests, controlSound, recordSound, rowsFit}
-use Rattle.model.specs.Refusals.{recordsFit, startRefusal}
-use Rattle.model.specs.Calls.{pushStart, actOn, act}
-use Rattle.model.proofs.laws.Lengths.{Lengths, lengths}
-use Rattle.model.proofs.tests.Rules.{_and_, tests, passes}
-use Rattle.model.proofs.unsound.Tests.{anchor-sound}
-use Rattle.model.specs.Lists.{every}
+use Rattle.model.{specs.Calls.{pushStart, actOn, act}, proofs.unsound.Tests.anchor-sound}
+use Rattle.model.proofs.{laws.Lengths.{Lengths, lengths}, tests.Rules.{_and_, tests, passes}}
 use Rattle.join_model.specs.Join.{anchorIn}
-use Rattle.join_model.proofs.Alone.{Able, at, step1-empty, step2}
-use Rattle.join_model.proofs.Ran.{Ran, ran-none, ran-more, stands, steps}
+use Rattle.join_model.proofs.{Alone.{Able, at, step1-empty, step2}, Ran.{Ran, ran-none, ran-more, stands, steps}}
 
 -- Control with another sound Anchor.
 pub control-kept : (t : Tables) (w : ℕ) → controlSound (t .control) ≡ true → anchorSound (t .control .slots) (anchorOf w) ≡ true

@@ -1,31 +1,17 @@
 -- The first label pushed by task 0 alone, and one label more: the closed form is kept.
-use mathlib.Core.Path.{_≡_, refl, sym, ap, subst, _∙_}
-use mathlib.Core.Bool.{true, false}
-use mathlib.Core.List.{List, _∷_}
+use mathlib.Core.{Path.{_≡_, refl, sym, ap, subst, _∙_}, Bool.{true, false}, List.{List, _∷_}}
 use Prim.Native.Nat.{ℕ, suc, _+_, _/_, _<_, _≤_}
 use native.Mathlib.Omega.{arith}
-use lib.Dec.{leb, ltb}
-use lib.ListN.{length, getD, set, replicate, length-set}
-use lib.Seq.{getD-set-same, set-set, set-getD}
+use lib.{Dec.{leb, ltb}, ListN.{length, getD, set, replicate, length-set}, Seq.{getD-set-same, set-set, set-getD}}
 use borrow.Author.Tests.{ne-eqb, ltb-true, leb-true}
-use Rattle.word.specs.declared.Anchor.{Anchor}
-use Rattle.word.specs.Anchor.{packAnchor}
-use Rattle.word.proofs.Laws.{unpack-pack}
-use Rattle.model.specs.declared.Record.{Record}
-use Rattle.model.specs.declared.Op.the-variants.{Push, Step}
+use Rattle.word.{specs.{declared.Anchor.Anchor, Anchor.packAnchor}, proofs.Laws.unpack-pack}
+use Rattle.model.specs.{declared.{Record.Record, Op.the-variants.{Push, Step}}, Sound.{anchorSound, rowTests, rowsFit}}
 use Rattle.model.specs.Tables.{Queue, idle, unused, withCall, taskAt, withAnchor, withTaken, tablesOf}
-use Rattle.model.specs.Sound.{anchorSound, rowTests, rowsFit}
-use Rattle.model.specs.History.{Request}
-use Rattle.model.proofs.laws.Lengths.{lengths}
-use Rattle.model.proofs.tests.Rules.{tests}
-use Rattle.model.proofs.unsound.Tests.{anchor-sound}
-use Rattle.join_model.specs.Join.{anchorIn, pushAlone}
-use Rattle.join_model.specs.Laws.{answersOne, answersNext}
+use Rattle.model.{specs.History.Request, proofs.{laws.Lengths.lengths, tests.Rules.tests, unsound.Tests.anchor-sound}}
+use Rattle.join_model.specs.{Join.{anchorIn, pushAlone}, Laws.{answersOne, answersNext}}
 use Rattle.join_model.specs.Closed.{filled, leftOf, rightOf, markedTo, tagAfter, held}
-use Rattle.join_model.proofs.Ran.{Ran, stands}
-use Rattle.join_model.proofs.Pushed.{Ready, control-kept, fitting, first-push}
+use Rattle.join_model.proofs.{Ran.{Ran, stands}, Pushed.{Ready, control-kept, fitting, first-push}, Fresh.Fresh}
 use Rattle.join_model.proofs.NextPush.{next-push, t10}
-use Rattle.join_model.proofs.Fresh.{Fresh}
 use Rattle.join_model.proofs.Filling.{filled-length, filled-beyond, marked-length, marked-beyond}
 
 module _ (q : Queue) (fresh : Fresh q) (f : ℕ → ℕ) where

@@ -1,15 +1,11 @@
 -- A list of requests carried out: the queue after it, and the outcomes.
-use mathlib.Core.Path.{_≡_, refl, ap, ap₂, _∙_}
-use mathlib.Core.List.{List, [], _∷_, _++_}
+use mathlib.Core.{Path.{_≡_, refl, ap, ap₂, _∙_}, List.{List, [], _∷_, _++_}}
 use Prim.Native.Nat.{_<_, _≤_}
 use lib.ListN.{length}
-use Rattle.model.specs.declared.{Record.Record, Outcome.Outcome}
-use Rattle.model.specs.declared.Op.the-variants.{Step}
-use Rattle.model.specs.Tables.{Tables, Queue}
-use Rattle.model.specs.Calls.{Done, back, act, stepLent}
-use Rattle.model.specs.History.{Request, run, final}
-use Rattle.join_model.specs.Join.{outcomes}
+use Rattle.model.specs.{declared.{Record.Record, Outcome.Outcome, Op.the-variants.Step}, Tables.{Tables, Queue}}
+use Rattle.model.specs.{Calls.{Done, back, act, stepLent}, History.{Request, run, final}}
 use Rattle.model.proofs.laws.LentRecord.{withRow, lent-record}
+use Rattle.join_model.specs.Join.{outcomes}
 
 pub record Ran (q : Queue) (os : List Request) (after : Queue) (said : List Outcome) : Type 0 where
   pub leaves : final q os ≡ after

@@ -1,22 +1,15 @@
 -- The labels wait in slots 1, 2 and so on.
-use mathlib.Core.Path.{_≡_, refl, sym, ap, _∙_}
-use mathlib.Core.Bool.{false, cond}
-use mathlib.Core.List.{List, [], _∷_, reverse, reverseAux}
+use mathlib.Core.{Path.{_≡_, refl, sym, ap, _∙_}, Bool.{false, cond}, List.{List, [], _∷_, reverse, reverseAux}}
 use Prim.Native.Nat.{ℕ, zero, suc, _<_, _≤_, _%_, _^_}
 use native.Mathlib.Omega.{arith}
-use lib.ListN.{length, getD, drop}
-use lib.Seq.{drop-cons, drop-length}
+use lib.{ListN.{length, getD, drop}, Seq.{drop-cons, drop-length}}
 use borrow.Author.Tests.{ne-eqb, le-leb, ltb-true}
 use Rattle.word.specs.declared.Anchor.{Anchor}
-use Rattle.model.specs.declared.Entry.{Entry}
-use Rattle.model.specs.Tables.{Tables, Queue}
-use Rattle.model.specs.Sound.{rowTests, rowsFit}
+use Rattle.model.specs.{declared.Entry.Entry, Tables.{Tables, Queue}, Sound.{rowTests, rowsFit}}
 use Rattle.model.specs.Walk.{Walk, entries, along, contents, walkFrom, whence}
-use Rattle.model.proofs.tests.Rules.{tests}
-use Rattle.model.proofs.unsound.Tests.{link-sound}
 use Rattle.model.specs.Sides.{isEmpty, links, opposite, near, far}
-use Rattle.join_model.specs.{Join.anchorIn, Laws.numbered}
-use Rattle.join_model.specs.Closed.{leftOf, labelOf, held, tagAfter}
+use Rattle.model.proofs.{tests.Rules.tests, unsound.Tests.link-sound}
+use Rattle.join_model.specs.{Join.anchorIn, Laws.numbered, Closed.{leftOf, labelOf, held, tagAfter}}
 use Rattle.join_model.proofs.{Fresh.Fresh, Filling.filled-at, Pushes.held-reads}
 
 -- The entries of slots k down to 1.

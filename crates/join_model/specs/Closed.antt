@@ -1,12 +1,9 @@
 -- Every word of the third queue after the joining, and 33 by the tag. (Document 02, #113.)
-use mathlib.Core.Bool.{Bool, _&&_, not, cond}
-use mathlib.Core.List.{List, [], _∷_}
+use mathlib.Core.{Bool.{Bool, _&&_, not, cond}, List.{List, [], _∷_}}
 use Prim.Native.Nat.{ℕ, zero, suc, _+_, _-_, _*_}
-use lib.Dec.{ltb, eqb}
-use lib.ListN.{length, getD, set}
+use lib.{Dec.{ltb, eqb}, ListN.{length, getD, set}}
 use Rattle.word.specs.{Anchor.packAnchor, Link.packLink}
-use Rattle.model.specs.Tables.{Queue, withMark, idle, withCall, taskAt, withAnchor, tablesOf}
-use Rattle.model.specs.Refusals.{first}
+use Rattle.model.specs.{Tables.{Queue, withMark, idle, withCall, taskAt, withAnchor, tablesOf}, Refusals.first}
 use Rattle.join_model.specs.Join.{anchorIn, lanes, joinRules, Joined, joined}
 
 -- Row k holds f k, for each k of 1 to n.

@@ -1,18 +1,11 @@
 -- The joining of two queues in a third. (Document 02, #113.)
-use mathlib.Core.Bool.{Bool, true, false, _&&_, _||_, not, cond}
-use mathlib.Core.List.{List, [], _∷_, _++_, map}
+use mathlib.Core.{Bool.{Bool, true, false, _&&_, _||_, not, cond}, List.{List, [], _∷_, _++_, map}}
 use Prim.Native.Nat.{ℕ, zero, suc, _+_, _/_}
-use lib.Dec.{ltb, eqb}
-use lib.ListN.{length, getD, replicate}
-use Rattle.word.specs.declared.Anchor.{Anchor}
-use Rattle.word.specs.Anchor.{anchorOf}
-use Rattle.model.specs.declared.Outcome.{Outcome}
-use Rattle.model.specs.declared.Outcome.the-variants.{Refused, Moved}
-use Rattle.model.specs.declared.Op.the-variants.{Push, Step}
-use Rattle.model.specs.Tables.{Queue, isPooled}
-use Rattle.model.specs.{Sound.controlSound, Report.busy, Sides.isEmpty, Lists.every}
-use Rattle.model.specs.Walk.{contents, isBroken}
-use Rattle.model.specs.Refusals.{Rule, rule, first, recordsFit}
+use lib.{Dec.{ltb, eqb}, ListN.{length, getD, replicate}}
+use Rattle.word.specs.{declared.Anchor.Anchor, Anchor.anchorOf}
+use Rattle.model.specs.declared.{Outcome.{Outcome, the-variants.{Refused, Moved}}, Op.the-variants.{Push, Step}}
+use Rattle.model.specs.{Tables.{Queue, isPooled}, Sound.controlSound, Report.busy, Sides.isEmpty, Lists.every}
+use Rattle.model.specs.{Walk.{contents, isBroken}, Refusals.{Rule, rule, first, recordsFit}}
 use Rattle.model.specs.History.{Request, Event, run, final}
 use Rattle.stock_model.specs.Accounts.{waitingLabels}
 use Rattle.join_model.specs.Merge.{merge}
@@ -89,8 +82,8 @@ unfoldable pub thirdFits : Queue → Bool
 thirdFits q = sourceFits q && ltb (q .tables .control .slots / 64) (length (q .tables .marks))
 
 -- 34 for all controls and Anchors, 12, 34 for the two walks, 47, 48; then 33.
-abbrev pub earlyRules : Queue → Queue → Queue → List Rule
-earlyRules a b q =
+abbrev pub rulesBefore33 : Queue → Queue → Queue → List Rule
+rulesBefore33 a b q =
     rule 34 (not (controlSound (a .tables .control)))
     ∷ rule 34 (not (controlSound (b .tables .control)))
     ∷ rule 34 (not (controlSound (q .tables .control)))
@@ -102,7 +95,7 @@ earlyRules a b q =
     ∷ []
 
 abbrev pub joinRules : Queue → Queue → Queue → Bool → List Rule
-joinRules a b q late = earlyRules a b q ++ (rule 33 late ∷ [])
+joinRules a b q late = rulesBefore33 a b q ++ (rule 33 late ∷ [])
 
 unfoldable pub joinRefusal : Queue → Queue → Queue → ℕ
 joinRefusal a b q = first (joinRules a b q (anyLate (outcomes (run q (pushes 1 (lanes a b))))))

@@ -1,20 +1,14 @@
 -- What is promised of the joining, beyond what it answers. (Document 02, #113.)
-use mathlib.Core.{Path._≡_, Logic._≢_, Bool.true}
-use mathlib.Core.List.{List, [], _∷_, _++_}
+use mathlib.Core.{Path._≡_, Logic._≢_, Bool.true, List.{List, [], _∷_, _++_}}
 use Prim.Native.Nat.{ℕ, suc, _+_, _/_, _≤_}
 use lib.ListN.{getD}
-use Rattle.model.specs.declared.Opening.the-variants.{Opened}
-use Rattle.model.specs.declared.Answer.the-variants.{Running, Pushed}
-use Rattle.model.specs.declared.{Entry.Entry, Outcome.Outcome}
-use Rattle.model.specs.declared.Outcome.the-variants.{Moved}
-use Rattle.model.specs.Tables.{Tables, Queue, withMarks, withNext}
-use Rattle.model.specs.{Calls.openQueue, Standing.Standing, Lists.copies}
-use Rattle.model.specs.Walk.{contents, entries}
+use Rattle.model.specs.declared.{Opening.the-variants.Opened, Answer.the-variants.{Running, Pushed}, Entry.Entry}
+use Rattle.model.specs.{declared.Outcome.{Outcome, the-variants.Moved}, Tables.{Tables, Queue, withMarks, withNext}}
+use Rattle.model.specs.{Calls.openQueue, Standing.Standing, Lists.copies, Walk.{contents, entries}}
 use Rattle.model.specs.History.{Request, run, final, ledger, Linearized, NeverUnsound, AfterOpening}
 use Rattle.stock_model.specs.Accounts.{waitingLabels, Accounted, StockSum}
-use Rattle.join_model.specs.Merge.{merge, Interleaved, Ascending}
+use Rattle.join_model.specs.{Merge.{merge, Interleaved, Ascending}, Closed.joinClosed}
 use Rattle.join_model.specs.Join.{fresh, lanes, pushes, outcomes, joinRefusal, join}
-use Rattle.join_model.specs.Closed.{joinClosed}
 
 -- Each queue keeps its own order, and two ascending queues give an ascending one; a tie goes to the first; no label is lost or made.
 abbrev pub OwnOrder : Type 0

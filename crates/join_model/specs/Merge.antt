@@ -1,6 +1,5 @@
 -- The labels of two queues in one list. (Document 02, #113.)
-use mathlib.Core.Bool.{Bool, cond}
-use mathlib.Core.List.{List, [], _∷_}
+use mathlib.Core.{Bool.{Bool, cond}, List.{List, [], _∷_}}
 use Prim.Native.Nat.{ℕ, _≤_}
 use lib.Dec.{leb}
 

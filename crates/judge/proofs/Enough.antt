@@ -1,21 +1,14 @@
 -- Room for 65 calls and for an order of 65 numbers is enough: more of either change no verdict.
-use mathlib.Core.Bool.{Bool, true, false, _&&_, _||_, cond, not}
-use mathlib.Core.List.{List}
-use mathlib.Core.Path.{_≡_, refl, sym, ap, _∙_}
+use mathlib.Core.{Bool.{Bool, true, false, _&&_, _||_, cond, not}, List.List, Path.{_≡_, refl, sym, ap, _∙_}}
 use Prim.Native.Nat.{ℕ, zero, suc, _/_, _≤_}
 use native.Mathlib.Omega.{arith}
-use lib.Dec.{eqb, leb}
-use lib.ListN.{length, take}
-use lib.Seq.{length-take-le, take-all}
+use lib.{Dec.{eqb, leb}, ListN.{length, take}, Seq.{length-take-le, take-all}}
 use borrow.Author.Tests.{leb-false, leb-true, lt-leb, ne-eqb, not-false, not-true}
 use Rattle.model.proofs.tests.Truth.{split}
-use Rattle.audit_model.specs.declared.Finished.{Finished}
-use Rattle.audit_model.specs.declared.Verdict.the-variants.{Refused}
-use Rattle.audit_model.specs.Audit.{accepted, rearranges, verdict}
-use Rattle.audit_model.specs.LentHistory.{callsFrom, callsIn}
+use Rattle.audit_model.specs.declared.{Finished.Finished, Verdict.the-variants.Refused}
+use Rattle.audit_model.specs.{Audit.{accepted, rearranges, verdict}, LentHistory.{callsFrom, callsIn}}
 use Rattle.historyfile.specs.{Buffer.held, Reading.Reading}
-use Rattle.judge.specs.Judging.{told}
-use Rattle.judge.specs.declared.Judged.the-variants.{Told, Unread}
+use Rattle.judge.specs.{Judging.told, declared.Judged.the-variants.{Told, Unread}}
 
 count-calls : (i n : ℕ) (ws : List ℕ) → length (callsFrom i n ws) ≡ n
 unfolding callsFrom

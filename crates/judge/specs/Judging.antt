@@ -1,12 +1,10 @@
 -- The verdict on a text.
-use mathlib.Core.Bool.{_&&_, cond}
-use mathlib.Core.List.{List}
+use mathlib.Core.{Bool.{_&&_, cond}, List.List}
 use Prim.Native.Nat.{ℕ}
 use lib.Dec.{eqb}
 use Rattle.audit_model.specs.{Audit.verdict, LentHistory.callsIn}
 use Rattle.historyfile.specs.Reading.{Reading, whole}
-use Rattle.judge.specs.declared.Judged.{Judged}
-use Rattle.judge.specs.declared.Judged.the-variants.{Unread, Told}
+use Rattle.judge.specs.declared.Judged.{Judged, the-variants.{Unread, Told}}
 
 -- A text without a fault and with an order is judged.
 unfoldable pub told : Reading → Judged

@@ -1,15 +1,11 @@
 -- What is said of a text, byte by byte: the verdict, or why the text cannot be read.
-use mathlib.Core.Bool.{Bool, true, false, cond}
-use mathlib.Core.List.{List, _++_}
+use mathlib.Core.{Bool.{Bool, true, false, cond}, List.{List, _++_}}
 use Prim.Native.Nat.{ℕ}
 use lib.Dec.{eqb}
-use Rattle.audit_model.specs.declared.Verdict.{Verdict}
-use Rattle.audit_model.specs.declared.Verdict.the-variants.{Refused, Failed, Passed}
+use Rattle.audit_model.specs.declared.Verdict.{Verdict, the-variants.{Refused, Failed, Passed}}
 use Rattle.lines.specs.{Ascii.ascii, Line.numbered}
-use Rattle.judge.specs.declared.Judged.{Judged}
-use Rattle.judge.specs.declared.Judged.the-variants.{Unread, Told}
-use Rattle.historyfile.specs.declared.reading.Place.{Place}
-use Rattle.historyfile.specs.Words.{large, seven, unlabelled}
+use Rattle.judge.specs.declared.Judged.{Judged, the-variants.{Unread, Told}}
+use Rattle.historyfile.specs.{declared.reading.Place.Place, Words.{large, seven, unlabelled}}
 
 -- A line of a word and a number.
 unfoldable pub counted : List ℕ → ℕ → List ℕ

@@ -7,8 +7,7 @@ use historyfile::reading::Place;
 ghost use mathlib.Core.Path.{_≡_};
 ghost use Prim.Native.Nat.{_≤_};
 ghost use lib.ListN.{length, take};
-ghost use Rattle.audit_model.specs.Audit.{verdict};
-ghost use Rattle.audit_model.specs.LentHistory.{callsIn};
+ghost use Rattle.audit_model.specs.{Audit.verdict, LentHistory.callsIn};
 ghost use Rattle.judge.specs.Judging.{judged};
 
 pub enum Judged {

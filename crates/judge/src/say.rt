@@ -7,8 +7,8 @@ ghost use mathlib.Core.Path.{_≡_};
 ghost use Prim.Native.Nat.{_+_, _≤_};
 ghost use lib.ListN.{length};
 ghost use Rattle.lines.specs.Line.{Put, givenRoom, room};
-ghost use Rattle.judge.specs.Judging.{judged};
-ghost use Rattle.judge.specs.Saying.{counted, faultLine, isTold, message, position, unreadLine, verdictLine, wanted};
+ghost use Rattle.judge.specs.{Judging.judged, Saying.wanted};
+ghost use Rattle.judge.specs.Saying.{counted, faultLine, isTold, message, position, unreadLine, verdictLine};
 
 /// How many bytes were written, and whether they tell a verdict; otherwise they tell why the text cannot be read.
 pub struct Said {

@@ -1,8 +1,6 @@
 -- The decimal digits of a number read back as that number.
 use Prim.Native.Nat.{ℕ, zero, suc, _+_, _-_, _*_, _/_, _%_, _^_, _<_, _≤_}
-use mathlib.Core.Path.{_≡_, refl}
-use mathlib.Core.Bool.{Bool, true, false}
-use mathlib.Core.List.{List, [], _∷_, _++_}
+use mathlib.Core.{Path.{_≡_, refl}, Bool.{Bool, true, false}, List.{List, [], _∷_, _++_}}
 use native.Mathlib.{Nat.pow-suc, Omega.arith}
 use lib.Dec.{ltb}
 use borrow.Author.Tests.{ltb-true, ltb-false}

@@ -1,12 +1,8 @@
 -- The last eight hexadecimal digits of a word as the lanes of another, and their glyphs in their place.
 use Prim.Native.Nat.{ℕ, _+_, _*_, _/_, _%_, _^_, _<_, _≤_}
-use mathlib.Core.Path.{_≡_, refl, ap, ap₂, _∙_}
-use mathlib.Core.Bool.{Bool, true, false}
-use mathlib.Core.List.{List, [], _∷_, _++_, map}
+use mathlib.Core.{Path.{_≡_, refl, ap, ap₂, _∙_}, Bool.{Bool, true, false}, List.{List, [], _∷_, _++_, map}}
 use native.Mathlib.{Nat.mul-div-cancel, Omega.arith}
-use lib.ListN.{length}
-use lib.Arith.{digits-div, digits-mod}
-use lib.Dec.{ltb, lit<, lit≤}
+use lib.{ListN.length, Arith.{digits-div, digits-mod}, Dec.{ltb, lit<, lit≤}}
 use lib.Bits.{bitAnd, and-block, and-high, and-le-r}
 use borrow.Author.Tests.{ltb-true, ltb-false}
 use Rattle.lines.specs.Line.{glyph, hexFour, hex, bytesOf}

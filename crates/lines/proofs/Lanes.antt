@@ -1,11 +1,9 @@
 -- A word as lanes of k bits, the lowest first: the same mask on each lane, and each lane cut in two.
 use Prim.Native.Nat.{ℕ, _+_, _-_, _*_, _/_, _%_, _^_, _<_, _≤_}
-use mathlib.Core.Path.{_≡_, refl, sym, ap, ap₂, _∙_}
-use mathlib.Core.List.{List, [], _∷_, map}
+use mathlib.Core.{Path.{_≡_, refl, sym, ap, ap₂, _∙_}, List.{List, [], _∷_, map}}
 use native.Mathlib.Nat.{mod-lt, lt-of-lt-of-le, add-mul, zero-mul, mul-assoc, mul-right-comm, mul-div-cancel}
 use native.Mathlib.Omega.{arith}
-use lib.Pow.{pow-add, pow-pos}
-use lib.Bits.{bitAnd, and-block, and-mask, and-high}
+use lib.{Pow.{pow-add, pow-pos}, Bits.{bitAnd, and-block, and-mask, and-high}}
 
 abbrev pub word : ℕ → List ℕ → ℕ
 word k [] = 0

@@ -1,21 +1,16 @@
 -- No line is longer than `room`, whatever its numbers.
 use Prim.Native.Nat.{ℕ, zero, suc, _+_, _/_, _%_, _≤_}
-use mathlib.Core.Bool.{Bool, true, false, cond}
-use mathlib.Core.List.{List, [], _∷_, _++_}
+use mathlib.Core.{Bool.{Bool, true, false, cond}, List.{List, [], _∷_, _++_}}
 use native.Mathlib.Omega.{arith}
-use lib.Dec.{ltb}
-use lib.ListN.{length, length-append}
+use lib.{Dec.ltb, ListN.{length, length-append}}
 use Rattle.model.specs.Refusals.{malformed}
-use Rattle.model.specs.declared.{Entry.Entry, Answer.Answer, Outcome.Outcome, Opening.Opening, Op.Op}
-use Rattle.model.specs.declared.Answer.the-variants.{Running, Pushed, Empty, Popped, NoFreeSlot}
-use Rattle.model.specs.declared.Outcome.the-variants.{Refused, Moved}
+use Rattle.model.specs.declared.{Entry.Entry, Outcome.{Outcome, the-variants.{Refused, Moved}}, Opening.Opening, Op.Op}
+use Rattle.model.specs.declared.Answer.{Answer, the-variants.{Running, Pushed, Empty, Popped, NoFreeSlot}}
 use Rattle.model.specs.declared.Opening.the-variants as opening
 use Rattle.model.specs.declared.Op.the-variants as op
-use Rattle.lines.specs.Ascii.{ascii}
-use Rattle.lines.specs.declared.Line.{Line}
-use Rattle.lines.specs.declared.Line.the-variants.{Open, Act, File}
-use Rattle.lines.specs.Line.{decimalIn, decimal, hexFour, hex, numbered, no, callWord, callOf, entryOf, answerOf, moved, outcomeOf}
-use Rattle.lines.specs.Line.{openingOf, told, anchorText, lineOf, header, room}
+use Rattle.lines.specs.{Ascii.ascii, declared.Line.{Line, the-variants.{Open, Act, File}}}
+use Rattle.lines.specs.Line.{decimalIn, decimal, hexFour, hex, numbered, no, callWord, callOf, entryOf, answerOf}
+use Rattle.lines.specs.Line.{moved, outcomeOf, openingOf, told, anchorText, lineOf, header, room}
 
 -- A list of two parts is at most as long as both may be.
 both-most : (xs ys : List ℕ) (m n : ℕ) → length xs ≤ m → length ys ≤ n → length (xs ++ ys) ≤ m + n

@@ -1,10 +1,8 @@
 -- Writes one after the other are one write of both texts.
 use Prim.Native.Nat.{ℕ, suc, _+_, _≤_, _<_}
 use native.Mathlib.{Numerals.add-one, Nat.add-zero, Omega.arith}
-use mathlib.Core.Path.{_≡_, refl, sym, ap, _∙_}
-use mathlib.Core.List.{List, [], _∷_, _++_}
-use lib.ListN.{length, set, getD, take, length-append}
-use lib.Seq.{sets, take-suc, length-take-le}
+use mathlib.Core.{Path.{_≡_, refl, sym, ap, _∙_}, List.{List, [], _∷_, _++_}}
+use lib.{ListN.{length, set, getD, take, length-append}, Seq.{sets, take-suc, length-take-le}}
 use borrow.Author.Tests.{le-leb}
 use Rattle.lines.specs.Line.{Put, givenRoom}
 

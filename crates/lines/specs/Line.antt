@@ -1,18 +1,13 @@
 -- A line of the trace, byte by byte. (Document 01: The run file and its trace.)
 use Prim.Native.Nat.{ℕ, zero, suc, _+_, _/_, _%_, _^_}
-use mathlib.Core.{Path._≡_, Bool.cond}
-use mathlib.Core.List.{List, [], _∷_, _++_}
-use lib.{ListN.length, Seq.sets}
-use lib.Dec.{ltb, leb}
-use Rattle.model.specs.declared.{Entry.Entry, Answer.Answer, Outcome.Outcome, Opening.Opening, Op.Op}
-use Rattle.model.specs.declared.Answer.the-variants.{Running, Pushed, Empty, Popped, NoFreeSlot}
-use Rattle.model.specs.declared.Outcome.the-variants.{Refused, Moved}
+use mathlib.Core.{Path._≡_, Bool.cond, List.{List, [], _∷_, _++_}}
+use lib.{ListN.length, Seq.sets, Dec.{ltb, leb}}
+use Rattle.model.specs.declared.{Entry.Entry, Outcome.{Outcome, the-variants.{Refused, Moved}}, Opening.Opening, Op.Op}
+use Rattle.model.specs.declared.Answer.{Answer, the-variants.{Running, Pushed, Empty, Popped, NoFreeSlot}}
+use Rattle.model.specs.Refusals.{malformed}
 use Rattle.model.specs.declared.Opening.the-variants as opening
 use Rattle.model.specs.declared.Op.the-variants as op
-use Rattle.model.specs.Refusals.{malformed}
-use Rattle.lines.specs.Ascii.{ascii}
-use Rattle.lines.specs.declared.Line.{Line}
-use Rattle.lines.specs.declared.Line.the-variants.{Open, Act, File}
+use Rattle.lines.specs.{Ascii.ascii, declared.Line.{Line, the-variants.{Open, Act, File}}}
 
 -- The decimal digits of n, at most more + 1 of them; a number below 2 ^ 64 has at most 20.
 unfoldable pub decimalIn : ℕ → ℕ → List ℕ

@@ -3,10 +3,9 @@ mod number;
 
 ghost use mathlib.Core.Path.{_≡_};
 ghost use Prim.Native.Nat.{_+_, _≤_};
-ghost use lib.ListN.{length};
-ghost use lib.Dec.{leb};
-ghost use Rattle.lines.specs.Line.{callWord, callOf, entryOf, answerOf, moved, outcomeOf, openingOf, told, anchorText, lineOf};
-ghost use Rattle.lines.specs.Line.{header, decimal, room, Put, givenRoom};
+ghost use lib.{ListN.length, Dec.leb};
+ghost use Rattle.lines.specs.Line.{callWord, callOf, entryOf, answerOf, moved, outcomeOf, openingOf, told, room};
+ghost use Rattle.lines.specs.Line.{anchorText, lineOf, header, decimal, Put, givenRoom};
 ghost use Rattle.lines.specs.declared.Line;
 use model::Answer;
 use model::Entry;

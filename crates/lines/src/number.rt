@@ -1,6 +1,5 @@
 // Words and numbers, decimal and hexadecimal, written into a lent buffer. The caller sees to it that there is room for them.
-ghost use mathlib.Core.Path.{_≡_};
-ghost use mathlib.Core.List.{[], _∷_, _++_};
+ghost use mathlib.Core.{Path._≡_, List.{[], _∷_, _++_}};
 ghost use Prim.Native.Nat.{_+_, _*_, _/_, _%_, _^_, _≤_, _<_};
 ghost use lib.ListN.{length};
 ghost use Rattle.lines.specs.Line.{decimalIn, decimal, lastTwo, hexFour, hex, bytesOf, numbered, Put};

@@ -1,18 +1,11 @@
 -- The ones of a masked word are the marks of its slots.
-use mathlib.Core.Path.{_≡_, refl, sym, ap, ap₂, _∙_}
-use mathlib.Core.{Bool.cond, List.List}
+use mathlib.Core.{Path.{_≡_, refl, sym, ap, ap₂, _∙_}, Bool.cond, List.List}
 use Prim.Native.Nat.{ℕ, zero, suc, _+_, _-_, _*_, _/_, _%_, _^_, _<_, _≤_, min}
-use native.Mathlib.Nat.{mod-lt, mod-one, mod-eq-of-lt, add-zero, zero-add, add-suc, add-assoc, add-comm}
-use native.Mathlib.Nat.{lt-trans, lt-suc-self, le-of-suc-le-suc, not-suc-le-zero}
-use native.Mathlib.{Numerals.one-add, Omega.arith}
-use lib.Dec.{lit<, eqb}
+use native.Mathlib.Nat.{mod-lt, mod-one, mod-eq-of-lt, add-zero, zero-add, add-suc, add-assoc, add-comm, lt-trans}
+use native.Mathlib.{Nat.{lt-suc-self, le-of-suc-le-suc, not-suc-le-zero}, Numerals.one-add, Omega.arith}
+use lib.{Dec.{lit<, eqb}, ListN.getD, Pow.{pow-pos, mod-pow-add, field, shr-shr}, Count.{ones, ones-cat}}
 use borrow.Author.Tests.{eqb-false, eqb-true, ne-eqb}
-use lib.ListN.{getD}
-use lib.Pow.{pow-pos, mod-pow-add, field, shr-shr}
-use lib.Count.{ones, ones-cat}
-use Rattle.model.specs.Tables.{bit, marked}
-use Rattle.model.specs.Lists.{count}
-use Rattle.model.proofs.tests.Truth.{by-test}
+use Rattle.model.{specs.{Tables.{bit, marked}, Lists.count}, proofs.tests.Truth.by-test}
 use Rattle.marks.specs.Masked.{upToLast, maskedWord}
 
 -- How many of the slots 1 to n are marked.

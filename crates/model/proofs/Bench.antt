@@ -1,16 +1,13 @@
 -- The bench cases that document 01 marks with a star, as one table. Each line holds by computing the meanings.
-use mathlib.Core.Path.{_≡_, refl}
-use mathlib.Core.List.{List, [], _∷_, map}
+use mathlib.Core.{Path.{_≡_, refl}, List.{List, [], _∷_, map}}
 use Prim.Native.Nat.{ℕ}
 use lib.ListN.{getD, replicate}
 use Rattle.word.specs.Anchor.{packAnchor}
-use Rattle.model.specs.declared.Answer.the-variants.{Running, Pushed, Empty, Popped}
-use Rattle.model.specs.declared.Outcome.{Outcome}
-use Rattle.model.specs.declared.Outcome.the-variants.{Refused, Moved}
-use Rattle.model.specs.declared.Op.the-variants.{Push, Pop, Step}
-use Rattle.model.specs.Tables.{Queue, queueOf, unopened, unused}
+use Rattle.model.specs.{declared.Answer.the-variants.{Running, Pushed, Empty, Popped}, Places.{at11, move}}
+use Rattle.model.specs.declared.Outcome.{Outcome, the-variants.{Refused, Moved}}
+use Rattle.model.specs.{declared.Op.the-variants.{Push, Pop, Step}, Tables.{Queue, queueOf, unopened, unused}}
 use Rattle.model.specs.Sound.{anchorSound, linkSound, controlSound, recordSound, rowsFit}
-use Rattle.model.specs.Places.{sideOf, row, linkSide, reading, at1, at2, at3, new4, at4, at5, at6, at7, at9, at10, at11, move}
+use Rattle.model.specs.Places.{sideOf, row, linkSide, reading, at1, at2, at3, new4, at4, at5, at6, at7, at9, at10}
 use Rattle.model.specs.Route.{pushRoute, popRoute, route, onward, answer, goes, counted}
 use Rattle.model.specs.Refusals.{openRefusal, stepSound, stepRefusal, startRefusal}
 use Rattle.model.specs.Calls.{opened, openAs, openQueue, pushStart, popStart, finish, step, actOn, act}

@@ -1,39 +1,33 @@
 -- Cases worked beside those of `Bench`: each refusal of an opening and of a start, what a step may not touch, which changes count as failed, walks that
 -- lead astray, what a report tells and leaves out, the number of each outcome, and a task stepped until it answers. Each line holds by computing
 -- the meanings.
-use mathlib.Core.Path.{_≡_, refl}
-use mathlib.Core.Bool.{true, false}
-use mathlib.Core.List.{List, [], _∷_, _++_, map}
+use mathlib.Core.{Path.{_≡_, refl}, Bool.{true, false}, List.{List, [], _∷_, _++_, map}}
 use Prim.Native.Nat.{ℕ}
 use lib.ListN.{replicate}
-use Rattle.model.specs.declared.{Call.Call, Reply.Reply}
-use Rattle.model.specs.declared.Answer.the-variants.{Pushed, Empty, NoFreeSlot}
-use Rattle.model.specs.declared.Outcome.the-variants.{Refused, Moved}
-use Rattle.model.specs.declared.Op.the-variants.{PushPooled}
-use Rattle.model.specs.declared.Opening.the-variants as opening
-use Rattle.model.specs.declared.Reported.the-variants as reported
-use Rattle.model.specs.Tables.{Tables, Queue, tablesOf, queueOf, unopened, openedControl, withWords, newCall, withSeen, withNeighbour, withLink}
-use Rattle.model.specs.Tables.{withMarks, counting, unused, started}
-use Rattle.model.specs.Sound.{anchorSound, linkSound, controlSound, recordSound, rowsFit}
-use Rattle.model.specs.Places.{sideOf, row, linkSide, reading, at1, at2, at3, new4, at4, at5, at6, at7, at9, at10, at11, at12, at13, at14}
-use Rattle.model.specs.Places.{at15, at16, at17, move}
+use Rattle.model.specs.declared.{Call.Call, Reply.Reply, Answer.the-variants.{Pushed, Empty, NoFreeSlot}}
+use Rattle.model.specs.declared.{Outcome.the-variants.{Refused, Moved}, Op.the-variants.PushPooled}
+use Rattle.model.specs.Tables.{Tables, Queue, tablesOf, queueOf, unopened, openedControl, withWords, newCall}
+use Rattle.model.specs.Tables.{withSeen, withNeighbour, withLink, withMarks, counting, unused, started}
+use Rattle.model.specs.{Sound.{anchorSound, linkSound, controlSound, recordSound, rowsFit}, Lists.{count, listed}}
+use Rattle.model.specs.Places.{sideOf, row, linkSide, reading, at1, at2, at3, new4, at4, at5, at6, at7, at9, at10}
+use Rattle.model.specs.{Places.{at11, at12, at13, at14, at15, at16, at17, move}, History.{Request, run, final}}
 use Rattle.model.specs.Route.{pushRoute, popRoute, route, onward, answer, goes, counted}
 use Rattle.model.specs.Refusals.{openRefusal, startRefusal, stepSound, stepRefusal, alone, reportRefusal}
-use Rattle.model.specs.Calls.{opened, openAs, openQueue, openPooled, pushStart, putStart, popStart, finish, step, actOn, act, openingCode, replyOf}
+use Rattle.model.specs.Calls.{opened, openAs, openQueue, openPooled, pushStart, pushPooledStart, popStart, finish}
+use Rattle.model.specs.{Calls.{step, actOn, act, openingCode, replyOf}, Solo.{soloRun, soloSteps}}
 use Rattle.model.specs.Walk.{Walk, entries, broken, along, contents}
 use Rattle.model.specs.Report.{busy, waiting, takenSlots, tell, report, reportCode, retryCounts}
-use Rattle.model.specs.History.{Request, run, final}
-use Rattle.model.specs.Solo.{soloRun, soloSteps}
+use Rattle.model.specs.declared.Opening.the-variants as opening
+use Rattle.model.specs.declared.Reported.the-variants as reported
 use Rattle.model.proofs.Bench.{zeros, fresh, push, pop, steps, outcomes, at, got, one, two}
-use Rattle.model.specs.Lists.{count, listed}
 
 -- Tables for 16 tasks and 1,023 slots.
 abbrev largest : Queue
 largest = queueOf unopened (replicate 16 unused) (replicate 1024 0) (replicate 1024 0) (replicate 1024 0) (replicate 16 0) []
 
 -- A push that names no slot; a pooled queue of one slot, with a first tag.
-abbrev put : ℕ → ℕ → ℕ → Request
-put t side label = record { task = t; op = PushPooled side label }
+abbrev pushPooled : ℕ → ℕ → ℕ → Request
+pushPooled t side label = record { task = t; op = PushPooled side label }
 
 abbrev pooledAt : ℕ → Queue
 pooledAt tag =
@@ -44,10 +38,10 @@ single = pooledAt 0
 
 -- The same once its slot waits.
 abbrev filled : Queue
-filled = final single (put 0 1 5 ∷ steps (replicate 5 0))
+filled = final single (pushPooled 0 1 5 ∷ steps (replicate 5 0))
 
 abbrev drawing : ℕ → Tables
-drawing n = final single (put 0 1 5 ∷ steps (replicate n 0)) .tables
+drawing n = final single (pushPooled 0 1 5 ∷ steps (replicate n 0)) .tables
 
 abbrev giving : ℕ → Tables
 giving n = final filled (pop 1 0 ∷ steps (replicate n 1)) .tables
@@ -144,18 +138,18 @@ pub record Cases : Type 0 where
   pub short-next : openRefusal true zeros 2 3 ≡ 12
   -- starts: no such task, no such side, no such slot
   pub starts-refused : outcomes (fresh 0)
-      (push 2 2 0 5 ∷ push 0 2 0 5 ∷ push 0 1 0 5 ∷ push 0 1 4 5 ∷ pop 2 2 ∷ pop 0 2 ∷ put 2 2 5 ∷ put 0 2 5 ∷ put 0 1 5 ∷ [])
+      (push 2 2 0 5 ∷ push 0 2 0 5 ∷ push 0 1 0 5 ∷ push 0 1 4 5 ∷ pop 2 2 ∷ pop 0 2 ∷ pushPooled 2 2 5 ∷ pushPooled 0 2 5 ∷ pushPooled 0 1 5 ∷ [])
       ≡ Refused 13 ∷ Refused 14 ∷ Refused 15 ∷ Refused 15 ∷ Refused 13 ∷ Refused 14 ∷ Refused 13 ∷ Refused 14 ∷ Refused 41 ∷ []
   -- in a pooled queue a slot that is named is 41, whatever the slot
-  pub pooled-starts : outcomes single (push 0 1 1 5 ∷ push 0 1 9 5 ∷ put 0 1 5 ∷ put 0 1 5 ∷ [])
+  pub pooled-starts : outcomes single (push 0 1 1 5 ∷ push 0 1 9 5 ∷ pushPooled 0 1 5 ∷ pushPooled 0 1 5 ∷ [])
       ≡ Refused 41 ∷ Refused 41 ∷ at 12 ∷ Refused 30 ∷ []
   -- at the last tag a push that names no slot is accepted, past it refused 33, and so is a pop
-  pub pooled-at-last-tag : outcomes (pooledAt 4294967262) (put 0 1 5 ∷ pop 1 0 ∷ []) ≡ at 12 ∷ at 1 ∷ []
-  pub pooled-past-it : outcomes (pooledAt 4294967263) (put 0 1 5 ∷ pop 1 0 ∷ []) ≡ Refused 33 ∷ Refused 33 ∷ []
+  pub pooled-at-last-tag : outcomes (pooledAt 4294967262) (pushPooled 0 1 5 ∷ pop 1 0 ∷ []) ≡ at 12 ∷ at 1 ∷ []
+  pub pooled-past-it : outcomes (pooledAt 4294967263) (pushPooled 0 1 5 ∷ pop 1 0 ∷ []) ≡ Refused 33 ∷ Refused 33 ∷ []
   -- the order of 30, 32 and 33: all three apply, then the last two, then the last
   pub start-order : outcomes worn (push 1 1 1 5 ∷ push 0 1 1 5 ∷ push 0 1 2 5 ∷ []) ≡ Refused 30 ∷ Refused 32 ∷ Refused 33 ∷ []
   -- the first push draws the one slot, the second finds none
-  pub drawn : outcomes single (put 0 1 5 ∷ steps (replicate 3 0) ++ put 1 1 6 ∷ steps (1 ∷ []))
+  pub drawn : outcomes single (pushPooled 0 1 5 ∷ steps (replicate 3 0) ++ pushPooled 1 1 6 ∷ steps (1 ∷ []))
       ≡ at 12 ∷ at 13 ∷ at 14 ∷ at 1 ∷ at 12 ∷ Moved NoFreeSlot ∷ []
   -- 14 marks and labels the slot drawn; a pop clears the mark at 11, before it gives the slot back; each change of the head raises its tag
   pub marked-at-14 : map (λ n. drawing n .marks) (2 ∷ 3 ∷ 5 ∷ []) ≡ (0 ∷ []) ∷ (2 ∷ []) ∷ (2 ∷ []) ∷ []
@@ -222,7 +216,7 @@ pub record Cases : Type 0 where
   pub one-made : (soloRun 9 astray 0 .outcome ≡ at 3) × (soloRun 9 astray 0 .steps ≡ 1)
 
 pub cases : Cases
-unfolding openAs opened openRefusal run final act actOn pushStart putStart popStart step finish startRefusal stepRefusal stepSound move at1 at2 at3
+unfolding openAs opened openRefusal run final act actOn pushStart pushPooledStart popStart step finish startRefusal stepRefusal stepSound move at1 at2 at3
     new4 at4 at5 at6 at7 at9 at10 at11 at12 at13 at14 at15 at16 at17 reading sideOf row linkSide anchorSound linkSound controlSound recordSound
     rowsFit pushRoute popRoute route onward answer goes counted along contents report tell reportRefusal busy count waiting takenSlots retryCounts
     listed soloSteps soloRun

@@ -1,27 +1,16 @@
 -- Neighbours among the labels waiting name each other, but at the end that the status names.
-use mathlib.Core.Bool.{false, true}
-use mathlib.Core.List.{List, _∷_, _++_, map-append}
-use mathlib.Core.Logic.{_≢_}
-use mathlib.Core.Path.{_∙_, _≡_, ap, sym}
+use mathlib.Core.{Bool.{false, true}, List.{List, _∷_, _++_, map-append}, Logic._≢_, Path.{_∙_, _≡_, ap, sym}}
 use Prim.Native.Nat.{ℕ}
 use native.Mathlib.Omega.{arith}
 use lib.Dec.{eqb}
 use borrow.Author.Tests.{eqb-true}
 use Rattle.word.specs.Anchor.{anchorOf}
-use Rattle.model.specs.declared.Entry.{Entry}
-use Rattle.model.specs.{Tables.Queue, Calls.opened}
-use Rattle.model.specs.Walk.{contents, entries}
-use Rattle.model.specs.History.{Ledger, final}
-use Rattle.model.specs.Neighbours.{Joined, LinksBack, NeighboursJoined}
-use Rattle.model.proofs.tests.Truth.{split}
-use Rattle.model.proofs.lists.Slots.{slots, slots-nil}
-use Rattle.model.proofs.machine.Machine.{Status, code}
-use Rattle.model.proofs.invariant.Shape.{Linked}
-use Rattle.model.proofs.chain.Joints.{joined-at}
-use Rattle.model.proofs.bridge.View.{stateOf, statusOf, view}
+use Rattle.model.specs.{declared.Entry.Entry, Tables.Queue, Calls.opened, Walk.{contents, entries}}
+use Rattle.model.specs.{History.{Ledger, final}, Neighbours.{Joined, LinksBack, NeighboursJoined}}
+use Rattle.model.proofs.{tests.Truth.split, lists.Slots.{slots, slots-nil}, machine.Machine.{Status, code}}
+use Rattle.model.proofs.{invariant.Shape.Linked, chain.Joints.joined-at, bridge.View.{stateOf, statusOf, view}}
 use Rattle.model.proofs.ledger.{Matched.Matched, Waiting.waits, EveryOperation.run-good}
-use Rattle.model.proofs.ledger.Opened.{nobody, open-good, some-slots}
-use Rattle.model.proofs.Openings.{after-opening}
+use Rattle.model.proofs.{ledger.Opened.{nobody, open-good, some-slots}, Openings.after-opening}
 
 -- The decoded status of a push is the number of its status.
 status-number : (n : ℕ) (st : Status) → statusOf n ≡ st → code st ≢ 0 → n ≡ code st

@@ -1,36 +1,25 @@
 -- A slot is marked exactly while it waits in the queue, or a record holds it that is not giving it back. (Line 21.)
-use mathlib.Core.Bool.{Bool, cond, false, not, true}
-use mathlib.Core.List.{List, [], _∷_}
-use mathlib.Core.Logic.{_≢_, _⊎_, inl, inr}
+use mathlib.Core.{Bool.{Bool, cond, false, not, true}, List.{List, [], _∷_}, Logic.{_≢_, _⊎_, inl, inr}}
 use mathlib.Core.Path.{_∙_, _≡_, ap, refl, subst, sym}
 use Prim.Native.Nat.{_<_, _≤_, ℕ}
 use native.Mathlib.Omega.{arith}
 use lib.Dec.{eqb, leb}
 use borrow.Author.Tests.{eqb-true, leb-true, lt-leb}
 use Rattle.word.specs.Anchor.{anchorOf}
-use Rattle.model.specs.{Calls.opened, Walk.entries, Lists.All, Sides.near}
+use Rattle.model.specs.{Calls.opened, Walk.entries, Lists.All, Sides.near, History.waits}
 use Rattle.model.specs.History.{InUse, Ledger, MarkedWhile, MarksNamed, MarksRight, Taken, Waits, final, here}
-use Rattle.model.specs.History.{is-taken, later, pop-gives, pop-holds, popGives, popHolds, push-holds, pushHolds, waits}
+use Rattle.model.specs.History.{is-taken, later, pop-gives, pop-holds, popGives, popHolds, push-holds, pushHolds}
 use Rattle.model.specs.Tables.{atPlace, Queue, Tables, isPooled, marked, recordAt}
-use Rattle.model.specs.declared.{Entry.Entry, Call.Call}
-use Rattle.model.proofs.tests.{ByPlace.by-place, Rules.tests}
-use Rattle.model.proofs.tests.Truth.{and-true, decide-eq, not-both}
-use Rattle.model.proofs.lists.{In.In, Slots.slots}
-use Rattle.model.proofs.machine.Book.{BookCall}
+use Rattle.model.specs.{declared.{Entry.Entry, Call.Call}, Kinds.{giving, isPop, isPush}}
+use Rattle.model.proofs.tests.{ByPlace.by-place, Rules.tests, Truth.{and-true, decide-eq, not-both}}
+use Rattle.model.proofs.{lists.{In.In, Slots.slots}, machine.Book.BookCall, ledger.Matched.Matched}
+use Rattle.model.proofs.invariant.{Owners.{Owner, held, queued, shows}, Tasks.{Own, Stage, Task}}
+use Rattle.model.proofs.places.{NoFreeSlot.{Holds, Pushes, used}, Marking.none-giving, Owned.push-pop}
+use Rattle.model.proofs.bridge.{Operations.task-of, View.{kindOf, placeOf, recOf, stateOf, view}}
+use Rattle.model.proofs.{unsound.Safe.Safe, progress.Reached.{final-reached, open-reached}}
+use Rattle.model.proofs.{NoFreeSlot.{Held, tip-near, used-is}, Openings.after-opening}
 use Rattle.model.proofs.machine.Machine as M
-use Rattle.model.proofs.invariant.Owners.{Owner, held, queued, shows}
-use Rattle.model.proofs.invariant.Tasks.{Own, Stage, Task}
-use Rattle.model.proofs.places.NoSlot.{Holds, Pushes, used}
-use Rattle.model.proofs.places.{Marking.none-giving, Owned.push-pop}
-use Rattle.model.proofs.bridge.Operations.{task-of}
-use Rattle.model.proofs.bridge.View.{kindOf, placeOf, recOf, stateOf, view}
-use Rattle.model.proofs.ledger.Matched.{Matched}
 use Rattle.model.proofs.ledger.Waiting as waiting
-use Rattle.model.proofs.unsound.Safe.{Safe}
-use Rattle.model.proofs.progress.Reached.{final-reached, open-reached}
-use Rattle.model.proofs.NoSlot.{Held, tip-near, used-is}
-use Rattle.model.proofs.Openings.{after-opening}
-use Rattle.model.specs.Kinds.{giving, isPop, isPush}
 
 -- What waits is in the sequential deque.
 waits-in : (l : List Entry) (x : ℕ) → Waits x (entries l) → In x (slots l)
@@ -77,14 +66,15 @@ module _ (r : Call) (x : ℕ) where
   never e = absurd (not-both e refl)
 
   -- A push at 1 to 10; a pop at 11; a pop at 15 to 17.
-  early : (p : ℕ) → eqb p 11 ≡ false → leb 15 p ≡ false → Held (atPlace r p) x → (kindOf (r .kind) ≡ M.push) × (eqb (r .finishing) 1 ≡ false) × (r .own ≡ x)
+  held-by-push : (p : ℕ) → eqb p 11 ≡ false → leb 15 p ≡ false → Held (atPlace r p) x
+      → (kindOf (r .kind) ≡ M.push) × (eqb (r .finishing) 1 ≡ false) × (r .own ≡ x)
   unfolding pushHolds popHolds popGives
-  early p a b (inl w) =
+  held-by-push p a b (inl w) =
       let z = tests (leb 1 p ∷ leb p 10 ∷ eqb (r .kind) 0 ∷ eqb (r .finishing) 0 ∷ eqb (r .own) x ∷ []) w in
       let f : r .finishing ≡ 0 = eqb-true _ _ (z .1 .1 .1 .0) in
       (ap (λ (b : Bool). cond b M.push M.pop) (z .1 .1 .0), ap (λ (n : ℕ). eqb n 1) f, eqb-true _ _ (z .1 .1 .1 .1 .0))
-  early p a b (inr (inl w)) = absurd (not-both (and-true _ _ w .0) a)
-  early p a b (inr (inr w)) = absurd (not-both (and-true _ _ w .0) b)
+  held-by-push p a b (inr (inl w)) = absurd (not-both (and-true _ _ w .0) a)
+  held-by-push p a b (inr (inr w)) = absurd (not-both (and-true _ _ w .0) b)
 
   end : Held (atPlace r 11) x → near (r .side) (anchorOf (r .seen)) ≡ x
   unfolding pushHolds popHolds popGives
@@ -107,16 +97,16 @@ module _ (r : Call) (x : ℕ) where
   at-places : (p : ℕ) → p ≢ 0 → p ≤ 17 → There p
   unfolding recOf
   at-places = by-place There
-      (early 1 refl refl)
-      (early 2 refl refl)
-      (early 3 refl refl)
-      (early 4 refl refl)
-      (early 5 refl refl)
-      (early 6 refl refl)
-      (early 7 refl refl)
-      (early 8 refl refl)
-      (early 9 refl refl)
-      (early 10 refl refl)
+      (held-by-push 1 refl refl)
+      (held-by-push 2 refl refl)
+      (held-by-push 3 refl refl)
+      (held-by-push 4 refl refl)
+      (held-by-push 5 refl refl)
+      (held-by-push 6 refl refl)
+      (held-by-push 7 refl refl)
+      (held-by-push 8 refl refl)
+      (held-by-push 9 refl refl)
+      (held-by-push 10 refl refl)
       (λ w. tip-near r x (eqb (r .side) 1) ∙ end w)
       (λ w. absurd (none 12 refl refl refl w))
       (λ w. absurd (none 13 refl refl refl w))
@@ -135,19 +125,19 @@ module _ (r : Call) (x : ℕ) where
       idle (inr (inr w)) = not-both w refl
 
   -- A push that holds its slot, or a pop at 11, is at none of 15 to 17.
-  push-early : pushHolds r x ≡ true → giving r ≡ false
+  push-not-giving : pushHolds r x ≡ true → giving r ≡ false
   unfolding pushHolds
-  push-early w =
+  push-not-giving w =
       let z = tests (leb 1 (r .place) ∷ leb (r .place) 10 ∷ isPush r ∷ eqb (r .finishing) 0 ∷ eqb (r .own) x ∷ []) w in
       lt-leb 15 (r .place) (omega (arith, leb-true (r .place) 10 (z .1 .0)))
 
-  pop-early : popHolds r x ≡ true → giving r ≡ false
+  pop-not-giving : popHolds r x ≡ true → giving r ≡ false
   unfolding popHolds
-  pop-early w = lt-leb 15 (r .place) (omega (arith, eqb-true (r .place) 11 (and-true _ _ w .0)))
+  pop-not-giving w = lt-leb 15 (r .place) (omega (arith, eqb-true (r .place) 11 (and-true _ _ w .0)))
 
-  gives-late : popGives r x ≡ true → giving r ≡ true
+  gives-giving : popGives r x ≡ true → giving r ≡ true
   unfolding popGives
-  gives-late w = and-true _ _ w .0
+  gives-giving w = and-true _ _ w .0
 
 -- The places 15 to 17.
 giving-is : (p : ℕ) → p ≤ 17 → M.isGiving (placeOf p) ≡ leb 15 p
@@ -204,15 +194,15 @@ module _ (n : ℕ) (q : Queue) (l : Ledger) (g : Matched n q l) (f : Safe q) whe
     where
       go : InUse q x → Taken q x
       go (is-taken k) = k
-      go (pop-gives t lt e) = absurd (not-both m (held-shown x le t lt (inr (inr e)) ∙ ap not (gives-late (recordAt q t) x e)))
+      go (pop-gives t lt e) = absurd (not-both m (held-shown x le t lt (inr (inr e)) ∙ ap not (gives-giving (recordAt q t) x e)))
 
   taken-marked : (x : ℕ) → x ≤ G .control .slots → Taken q x → marked (G .marks) x ≡ true
   unfolding stateOf
   taken-marked x le (waits w) =
       let i = waits-in (g .book .queue) x (subst (Waits x) (waiting.waits G (g .links) h (g .book .queue) (g .inv .whole)) w) in
       shown x le ∙ ap (shows (stateOf q .task)) (all-in (λ y. h y ≡ queued) (slots (g .book .queue)) x (g .inv .whole .owned) i)
-  taken-marked x le (push-holds t lt e) = held-shown x le t lt (inl e) ∙ ap not (push-early (recordAt q t) x e)
-  taken-marked x le (pop-holds t lt e) = held-shown x le t lt (inr (inl e)) ∙ ap not (pop-early (recordAt q t) x e)
+  taken-marked x le (push-holds t lt e) = held-shown x le t lt (inl e) ∙ ap not (push-not-giving (recordAt q t) x e)
+  taken-marked x le (pop-holds t lt e) = held-shown x le t lt (inr (inl e)) ∙ ap not (pop-not-giving (recordAt q t) x e)
 
   -- In a named queue no slot is being given back.
   use-is-taken : isPooled (G .control) ≡ false → (x : ℕ) → InUse q x → Taken q x
@@ -221,7 +211,7 @@ module _ (n : ℕ) (q : Queue) (l : Ledger) (g : Matched n q l) (f : Safe q) whe
   use-is-taken named x (pop-gives t lt e) =
       let none : giving (recordAt q t) ≡ false = sym (gives t lt)
       ∙ none-giving (view G) h t (stateOf q .task t) (g .book .calls t) named (stateOf q .task t .place) (g .inv .tasks t) in
-      absurd (not-both (gives-late (recordAt q t) x e) none)
+      absurd (not-both (gives-giving (recordAt q t) x e) none)
 
 pub marks-right : MarksRight
 marks-right pooled = after-opening pooled (MarkedWhile Taken) (λ q tasks slots tag e os x some le.

@@ -1,28 +1,19 @@
 -- After any accepted opening, on any tables, no start or step is ever refused as unsound (34).
-use mathlib.Core.Bool.{Bool, cond, true}
-use mathlib.Core.Path.{_∙_, _≡_, ap, refl, subst, sym}
+use mathlib.Core.{Bool.{Bool, cond, true}, Path.{_∙_, _≡_, ap, refl, subst, sym}}
 use Prim.Native.Nat.{_≤_, ℕ}
 use native.Mathlib.Omega.{arith}
 use lib.Dec.{leb}
 use borrow.Author.Tests.{not-false}
-use Rattle.word.specs.Anchor.{anchorOf, emptyAnchor, packAnchor}
-use Rattle.word.specs.Link.{linkOf}
-use Rattle.model.specs.{Calls.opened, Tables.Queue}
-use Rattle.model.specs.History.{Never34, NeverUnsound}
-use Rattle.model.specs.Refusals.{openRefusal, openRules}
-use Rattle.model.specs.Sound.{controlSound, controlTests}
-use Rattle.model.specs.declared.Call.{Call}
-use Rattle.model.proofs.tests.Rules.{_and_, cleared, passes}
-use Rattle.model.proofs.tests.Truth.{by-test, not-both}
-use Rattle.model.proofs.machine.Laws.{stable-pushing}
-use Rattle.model.proofs.machine.Machine as M
-use Rattle.model.proofs.invariant.Fields.{Extra}
-use Rattle.model.proofs.invariant.Tags.{cost, owes, share, shares, spent, unsettled}
-use Rattle.model.proofs.bridge.View.{stateOf, view}
-use Rattle.model.proofs.ledger.Opened.{all-idle, empty-left, empty-right, empty-status, no-record, nobody, open-good, some-slots, zero-links}
-use Rattle.model.proofs.tags.Sum.{total-le}
+use Rattle.word.specs.{Anchor.{anchorOf, emptyAnchor, packAnchor}, Link.linkOf}
+use Rattle.model.specs.{Calls.opened, Tables.Queue, History.{Never34, NeverUnsound}, declared.Call.Call}
+use Rattle.model.specs.{Refusals.{openRefusal, openRules}, Sound.{controlSound, controlTests}}
+use Rattle.model.proofs.{tests.{Rules.{_and_, cleared, passes}, Truth.{by-test, not-both}}, tags.Sum.total-le}
+use Rattle.model.proofs.{machine.Laws.stable-pushing, bridge.View.{stateOf, view}, Openings.after-opening}
+use Rattle.model.proofs.invariant.{Fields.Extra, Tags.{cost, owes, share, shares, spent, unsettled}}
+use Rattle.model.proofs.ledger.Opened.{all-idle, empty-left, empty-right, empty-status, no-record, nobody}
+use Rattle.model.proofs.ledger.Opened.{open-good, some-slots, zero-links}
 use Rattle.model.proofs.unsound.{Runs.run-safe, Safe.Safe, Tests.anchor-sound}
-use Rattle.model.proofs.Openings.{after-opening}
+use Rattle.model.proofs.machine.Machine as M
 
 module _ (pooled : Bool) (q : Queue) (tasks slots tag : ℕ) where
   abbrev o : Queue

@@ -4,10 +4,8 @@ use Prim.Native.Nat.{ℕ}
 use native.Mathlib.Omega.{arith}
 use lib.Dec.{eqb}
 use borrow.Author.Tests.{eqb-true}
-use Rattle.model.specs.declared.Opening.the-variants.{Opened, Refused}
-use Rattle.model.specs.{Tables.Queue, Refusals.openRefusal}
-use Rattle.model.specs.Calls.{openAs, opened}
-use Rattle.model.specs.History.{AfterOpeningAs, Request}
+use Rattle.model.specs.{declared.Opening.the-variants.{Opened, Refused}, Tables.Queue, Refusals.openRefusal}
+use Rattle.model.specs.{Calls.{openAs, opened}, History.{AfterOpeningAs, Request}}
 use Rattle.model.proofs.tests.Truth.{split}
 
 pub after-opening : (pooled : Bool) (P : Queue → List Request → Type 0)

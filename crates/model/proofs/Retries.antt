@@ -1,29 +1,18 @@
 -- The counts of the tasks add up to the single count that control had.
-use mathlib.Core.Bool.{Bool, true, false}
-use mathlib.Core.List.{List, [], _∷_}
-use mathlib.Core.Logic.{_≢_, _⊎_, inl, inr}
+use mathlib.Core.{Bool.{Bool, true, false}, List.{List, [], _∷_}, Logic.{_≢_, _⊎_, inl, inr}}
 use mathlib.Core.Path.{_≡_, _∙_, ap, fun-ext, refl, subst, sym}
 use Prim.Native.Nat.{ℕ, zero, suc, _+_, _<_, _≤_}
 use native.Mathlib.Omega.{arith}
-use lib.Dec.{eqb, ltb}
-use lib.ListN.{getD, length, set}
+use lib.{Dec.{eqb, ltb}, ListN.{getD, length, set}, Seq.{getD-set-same, getD-set-other}}
 use borrow.Author.Tests.{eqb-true, lt-ltb}
-use lib.Seq.{getD-set-same, getD-set-other}
-use Rattle.model.specs.declared.{Op.Op, Record.Record}
-use Rattle.model.specs.declared.Op.the-variants.{Push, Pop, PushPooled, Step}
-use Rattle.model.specs.Tables.{Queue, recordAt, taskAt, unused}
-use Rattle.model.specs.Refusals.{among, popRefusal, pushRefusal, putRefusal, stepRefusal}
-use Rattle.model.specs.Route.{counted}
-use Rattle.model.specs.Calls.{Acted, act, actOn, finish, opened, popStart, pushStart, putStart, step}
-use Rattle.model.specs.History.{Request, final}
+use Rattle.model.specs.declared.{Op.{Op, the-variants.{Push, Pop, PushPooled, Step}}, Record.Record}
+use Rattle.model.specs.{Tables.{Queue, recordAt, taskAt, unused}, Route.counted, History.{Request, final}}
+use Rattle.model.specs.Refusals.{among, popRefusal, pushRefusal, pushPooledRefusal, stepRefusal}
+use Rattle.model.specs.Calls.{Acted, act, actOn, finish, opened, popStart, pushStart, pushPooledStart, step}
 use Rattle.model.specs.Retries.{RetriesSum, SumIsOld, fails, oldCount, retriesBelow}
-use Rattle.model.proofs.tests.Truth.{and-true, by-test, decide-eq, not-both, split}
-use Rattle.model.proofs.machine.Laws.{upd-other, upd-same}
-use Rattle.model.proofs.machine.Machine.{upd}
-use Rattle.model.proofs.tags.Sum.{total, total-one, total-upd}
-use Rattle.model.proofs.bridge.Accepted.{Lies, step-accepted}
-use Rattle.model.proofs.ledger.Opened.{zeroed-at}
-use Rattle.model.proofs.laws.Sizes.{act-tasks}
+use Rattle.model.proofs.{tests.Truth.{and-true, by-test, decide-eq, not-both, split}, ledger.Opened.zeroed-at}
+use Rattle.model.proofs.{machine.{Laws.{upd-other, upd-same}, Machine.upd}, laws.Sizes.act-tasks}
+use Rattle.model.proofs.{tags.Sum.{total, total-one, total-upd}, bridge.Accepted.{Lies, step-accepted}}
 use Rattle.model.proofs.Openings.{after-opening}
 
 -- The count of a task.
@@ -37,12 +26,13 @@ below-total q (suc n) = ap (λ (k : ℕ). own q n + k) (below-total q n)
 
 -- What a start or step leaves of its task's count.
 count-of : (q : Queue) (t : ℕ) (o : Op) → actOn (q .tables) (among q t) (taskAt q t) o .task .retries ≡ counted (own q t) (fails q t o)
-unfolding actOn pushStart popStart putStart step finish fails counted
+unfolding actOn pushStart popStart pushPooledStart step finish fails counted
 count-of q t (Push side slot label) =
     by-test (λ (a : Acted). a .task .retries ≡ own q t) (eqb (pushRefusal (q .tables) (among q t) (recordAt q t) side slot) 0) (λ e. refl) (λ e. refl)
 count-of q t (Pop side) = by-test (λ (a : Acted). a .task .retries ≡ own q t) (eqb (popRefusal (q .tables) (among q t) (recordAt q t) side) 0)
     (λ e. refl) (λ e. refl)
-count-of q t (PushPooled side label) = by-test (λ (a : Acted). a .task .retries ≡ own q t) (eqb (putRefusal (q .tables) (among q t) (recordAt q t) side) 0)
+count-of q t (PushPooled side label) = by-test (λ (a : Acted). a .task .retries ≡ own q t)
+    (eqb (pushPooledRefusal (q .tables) (among q t) (recordAt q t) side) 0)
     (λ e. refl) (λ e. refl)
 count-of q t Step = split (eqb (stepRefusal (q .tables) (among q t) (recordAt q t)) 0) (λ e. rw e) (λ e. rw e)
 

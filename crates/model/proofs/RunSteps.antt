@@ -1,37 +1,25 @@
 -- A task stepped until it answers is a list of its steps; from an opening on it is never refused 34.
-use mathlib.Core.Bool.{Bool, _&&_, _||_, cond, false, true}
-use mathlib.Core.List.{List, [], _∷_}
-use mathlib.Core.Logic.{_≢_}
+use mathlib.Core.{Bool.{Bool, _&&_, _||_, cond, false, true}, List.{List, [], _∷_}, Logic._≢_}
 use mathlib.Core.Path.{_≡_, _∙_, ap, refl, sym}
 use Prim.Native.Nat.{suc, zero, ℕ}
 use native.Mathlib.Omega.{arith}
-use lib.Dec.{eqb, leb}
-use lib.ListN.{getD}
-use lib.Seq.{getD-set-same}
+use lib.{Dec.{eqb, leb}, ListN.getD, Seq.getD-set-same}
 use borrow.Author.Tests.{eqb-true}
-use Rattle.model.specs.Calls.{Acted, act, actOn, back, entryOf, finish, opened, step}
-use Rattle.model.specs.Ends.{isMoved, isRunning}
-use Rattle.model.specs.History.{Event, final, run}
-use Rattle.model.specs.Lists.{All}
-use Rattle.model.specs.Places.{Move, move, wordFound}
-use Rattle.model.specs.Refusals.{among, stepRefusal}
-use Rattle.model.specs.Route.{answer, empty, goes, leave, noSlot, onward, popRoute, popped, pushRoute, pushed, route}
+use Rattle.model.specs.{Calls.{Acted, act, actOn, back, entryOf, finish, opened, step}, Ends.{isMoved, isRunning}}
+use Rattle.model.specs.{History.{Event, final, run}, Lists.All, Places.{Move, move, wordFound}, Route.route}
+use Rattle.model.specs.{Refusals.{among, stepRefusal}, Tables.{Queue, recordAt, unused}}
+use Rattle.model.specs.Route.{answer, empty, goes, leave, noFreeSlot, onward, popRoute, popped, pushRoute, pushed}
 use Rattle.model.specs.Solo.{RunNever34, RunsAreSteps, SoloDone, lastTold, soloRun, soloSteps, stepsOf}
-use Rattle.model.specs.Tables.{Queue, recordAt, unused}
-use Rattle.model.specs.declared.Answer.the-variants.{Empty, NoFreeSlot, Popped, Pushed, Running}
-use Rattle.model.specs.declared.{Answer.Answer, Call.Call, Entry.Entry, Outcome.Outcome, Record.Record}
-use Rattle.model.specs.declared.Op.the-variants.{Step}
-use Rattle.model.specs.declared.Outcome.the-variants.{Moved, Refused}
-use Rattle.model.proofs.tests.Truth.{and-true, by-test, not-both, or-left}
-use Rattle.model.proofs.bridge.Accepted.{step-accepted}
-use Rattle.model.proofs.laws.Runs.{run-refused}
-use Rattle.model.proofs.progress.Reached.{final-reached, open-reached}
-use Rattle.model.proofs.unsound.Runs.{act-safe}
-use Rattle.model.proofs.Openings.{after-opening}
+use Rattle.model.specs.declared.Answer.{the-variants.{Empty, NoFreeSlot, Popped, Pushed, Running}, Answer}
+use Rattle.model.specs.declared.{Call.Call, Entry.Entry, Outcome.{Outcome, the-variants.{Moved, Refused}}}
+use Rattle.model.specs.declared.{Record.Record, Op.the-variants.Step}
+use Rattle.model.proofs.{tests.Truth.{and-true, by-test, not-both, or-left}, bridge.Accepted.step-accepted}
+use Rattle.model.proofs.{laws.Runs.run-refused, progress.Reached.{final-reached, open-reached}}
+use Rattle.model.proofs.{unsound.Runs.act-safe, Openings.after-opening}
 
 -- ---- a route leads to a place or to an answer, so a task that is told *running* stands at the place told
 abbrev ends : ℕ → Bool
-ends n = eqb n leave || (eqb n pushed || (eqb n empty || (eqb n popped || eqb n noSlot)))
+ends n = eqb n leave || (eqb n pushed || (eqb n empty || (eqb n popped || eqb n noFreeSlot)))
 
 abbrev leads : ℕ → Bool
 leads n = leb n 17 || ends n
@@ -75,7 +63,7 @@ runs-to n e p h =
     by-test Goal (eqb n pushed) (λ _ x. no-run refl x)
     (λ a. by-test Goal (eqb n empty) (λ _ x. no-run refl x)
     (λ b. by-test Goal (eqb n popped) (λ _ x. no-run refl x)
-    (λ c. by-test Goal (eqb n noSlot) (λ _ x. no-run refl x)
+    (λ c. by-test Goal (eqb n noFreeSlot) (λ _ x. no-run refl x)
     (λ d x. (cc, or-left (leb n 17) (ends n) (h .0) (rw (h .1, a, b, c, d)))))))
   where
     Goal : Answer → Type 0

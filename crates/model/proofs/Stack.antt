@@ -1,21 +1,12 @@
 -- A pooled opening stacks all slots, slot 1 on top.
-use mathlib.Core.Bool.{true}
-use mathlib.Core.List.{List, [], _++_, _∷_}
-use mathlib.Core.Path.{_∙_, _≡_, ap, refl}
+use mathlib.Core.{Bool.true, List.{List, [], _++_, _∷_}, Path.{_∙_, _≡_, ap, refl}}
 use Prim.Native.Nat.{_+_, _-_, _<_, _≤_, suc, zero, ℕ}
 use native.Mathlib.Omega.{arith}
-use lib.Dec.{eqb}
-use lib.ListN.{drop, getD, length}
-use lib.Seq.{getD-drop}
+use lib.{Dec.eqb, ListN.{drop, getD, length}, Seq.getD-drop}
 use borrow.Author.Tests.{eqb-true}
-use Rattle.model.specs.Calls.{openAs, opened}
-use Rattle.model.specs.Lists.{climb}
-use Rattle.model.specs.Refusals.{openRefusal}
-use Rattle.model.specs.Stack.{PoolStacked, Stacked}
-use Rattle.model.specs.Tables.{Queue}
-use Rattle.model.specs.declared.Opening.the-variants.{Opened, Refused}
-use Rattle.model.proofs.tests.Truth.{split}
-use Rattle.model.proofs.lists.Range.{length-climb}
+use Rattle.model.specs.{Calls.{openAs, opened}, Lists.climb, Refusals.openRefusal, Stack.{PoolStacked, Stacked}}
+use Rattle.model.specs.{Tables.Queue, declared.Opening.the-variants.{Opened, Refused}}
+use Rattle.model.proofs.{tests.Truth.split, lists.Range.length-climb}
 use Rattle.model.proofs.ledger.Opened.{next-end, next-up, next-zero, some-slots}
 
 -- What lies behind the first of two lists.

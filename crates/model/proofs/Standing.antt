@@ -1,20 +1,14 @@
 -- After any accepted opening and any list: what every call that walks relies on, and so what the report tells.
-use mathlib.Core.Path.{_∙_, _≡_, refl}
-use mathlib.Core.Bool.{Bool}
-use mathlib.Core.List.{List, [], _∷_}
+use mathlib.Core.{Path.{_∙_, _≡_, refl}, Bool.Bool, List.{List, [], _∷_}}
 use Prim.Native.Nat.{ℕ}
-use Rattle.model.specs.declared.Entry.{Entry}
-use Rattle.model.specs.declared.Reported.the-variants as reported
-use Rattle.model.specs.Tables.{Queue}
-use Rattle.model.specs.Standing.{Standing, StandsAfterOpening}
-use Rattle.model.specs.Refusals.{openRefusal, recordsFit, reportRefusal}
-use Rattle.model.specs.Calls.{act, opened}
+use Rattle.model.specs.{declared.Entry.Entry, Tables.Queue, Standing.{Standing, StandsAfterOpening}}
+use Rattle.model.specs.{Refusals.{openRefusal, recordsFit, reportRefusal}, Calls.{act, opened}}
 use Rattle.model.specs.Report.{busy, report, tell, told, waiting}
 use Rattle.model.specs.History.{Reports, Told, Request, final, ledger, run}
-use Rattle.model.proofs.laws.Sizes.{act-fits, fits, open-fits}
-use Rattle.model.proofs.ledger.Opened.{nobody, open-good, some-slots}
-use Rattle.model.proofs.unsound.Runs.{run-safe}
-use Rattle.model.proofs.{Linearizable.linearized, Never34.open-safe, Openings.after-opening}
+use Rattle.model.specs.declared.Reported.the-variants as reported
+use Rattle.model.proofs.{laws.Sizes.{act-fits, fits, open-fits}, ledger.Opened.{nobody, open-good, some-slots}}
+use Rattle.model.proofs.{unsound.Runs.run-safe, Linearizable.linearized, Never34.open-safe}
+use Rattle.model.proofs.Openings.{after-opening}
 
 final-fits : (os : List Request) (q : Queue) → fits (final q os) ≡ fits q
 unfolding final

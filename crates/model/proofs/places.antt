@@ -21,4 +21,4 @@ pub mod Step
 pub mod Start
 pub mod Opening
 pub mod AtMostOnce
-pub mod NoSlot
+pub mod NoFreeSlot

@@ -3,7 +3,7 @@
 pub mod Measure
 pub mod Falls
 pub mod Bounds
-pub mod Taken
+pub mod NotRefused
 pub mod Reached
 pub mod Alone
 pub mod AloneSteps

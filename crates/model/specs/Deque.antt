@@ -1,10 +1,9 @@
 -- The sequential deque. (Document 01: The clerk.)
-use mathlib.Core.Bool.{Bool, true, false, cond}
-use mathlib.Core.List.{List, [], _∷_, reverse}
+use mathlib.Core.{Bool.{Bool, true, false, cond}, List.{List, [], _∷_, reverse}}
 use Prim.Native.Nat.{ℕ}
 use lib.Dec.{eqb}
-use Rattle.model.specs.declared.{Entry.Entry, Answer.Answer}
-use Rattle.model.specs.declared.Answer.the-variants.{Running, Pushed, Empty, Popped, NoFreeSlot}
+use Rattle.model.specs.declared.Entry.{Entry}
+use Rattle.model.specs.declared.Answer.{Answer, the-variants.{Running, Pushed, Empty, Popped, NoFreeSlot}}
 
 -- A deque is a list from left to right; seen from a side, the end there comes first.
 abbrev pub seenFrom : {A : Type 0} → ℕ → List A → List A
@@ -32,12 +31,12 @@ unfoldable pub serve : ℕ → ℕ → Entry → List Entry → Served
 serve kind side e l = cond (eqb kind 0) (servePush side e l) (servePop side l)
 
 -- The answer is *no slot*.
-abbrev pub saysNoSlot : Answer → Bool
-saysNoSlot (Running p) = false
-saysNoSlot Pushed = false
-saysNoSlot Empty = false
-saysNoSlot (Popped e) = false
-saysNoSlot NoFreeSlot = true
+abbrev pub saysNoFreeSlot : Answer → Bool
+saysNoFreeSlot (Running p) = false
+saysNoFreeSlot Pushed = false
+saysNoFreeSlot Empty = false
+saysNoFreeSlot (Popped e) = false
+saysNoFreeSlot NoFreeSlot = true
 
 -- To a push that lacks a slot it replies *no slot*, and stays. (Request #104.)
 unfoldable pub serveFor : Bool → ℕ → ℕ → Entry → List Entry → Served

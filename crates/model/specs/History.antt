@@ -1,24 +1,15 @@
 -- Histories: the events of a list of starts and steps, the calls among them, and what is promised of them. (Document 01: The clerk.)
-use mathlib.Core.Path.{_≡_}
-use mathlib.Core.Bool.{Bool, true, false, _&&_, _||_, not, cond}
-use mathlib.Core.List.{List, [], _∷_}
+use mathlib.Core.{Path._≡_, Bool.{Bool, true, false, _&&_, _||_, not, cond}, List.{List, [], _∷_}}
 use Prim.Native.Nat.{ℕ, suc, _<_, _≤_}
-use lib.Dec.{eqb, leb}
-use lib.ListN.{length}
+use lib.{Dec.{eqb, leb}, ListN.length}
 use Rattle.word.specs.Anchor.{anchorOf}
-use Rattle.model.specs.declared.{Entry.Entry, Answer.Answer, Outcome.Outcome, Op.Op, Call.Call, Report.Report}
-use Rattle.model.specs.declared.Answer.the-variants.{Running, Pushed, Empty, Popped, NoFreeSlot}
-use Rattle.model.specs.declared.Outcome.the-variants.{Refused, Moved}
-use Rattle.model.specs.declared.Op.the-variants.{Push, Pop, PushPooled, Step}
-use Rattle.model.specs.Tables.{Queue, marked, recordAt}
-use Rattle.model.specs.declared.Opening.the-variants.{Opened}
+use Rattle.model.specs.declared.{Entry.Entry, Outcome.{Outcome, the-variants.{Refused, Moved}}, Call.Call}
+use Rattle.model.specs.declared.Answer.{Answer, the-variants.{Running, Pushed, Empty, Popped, NoFreeSlot}}
+use Rattle.model.specs.{declared.{Op.{Op, the-variants.{Push, Pop, PushPooled, Step}}, Report.Report}, Sides.near}
+use Rattle.model.specs.{declared.Opening.the-variants.Opened, Tables.{Queue, marked, recordAt}, Report.report}
+use Rattle.model.specs.{Calls.{openAs, act}, Walk.{Walk, entries, contents}, Deque.{saysNoFreeSlot, serveFor}}
+use Rattle.model.specs.{Lists.{every, All}, Kinds.{isPush, isPop, giving}}
 use Rattle.model.specs.declared.Reported.the-variants as reported
-use Rattle.model.specs.Calls.{openAs, act}
-use Rattle.model.specs.Walk.{Walk, entries, contents}
-use Rattle.model.specs.{Report.report, Sides.near}
-use Rattle.model.specs.Deque.{saysNoSlot, serveFor}
-use Rattle.model.specs.Lists.{every, All}
-use Rattle.model.specs.Kinds.{isPush, isPop, giving}
 
 -- An operation of a task: an element of the list, with any numbers.
 pub record Request : Type 0 where
@@ -127,7 +118,7 @@ toldEntry c e = record { slot = cond (c .named) (c .entry .slot) (near (c .side)
 
 -- *No slot* is for pushes that named none. To any other call so answered the deque replies as ever: the answer is then not its reply.
 abbrev pub lacksSlot : LedgerCall → Answer → Bool
-lacksSlot c a = saysNoSlot a && (eqb (c .kind) 0 && not (c .named))
+lacksSlot c a = saysNoFreeSlot a && (eqb (c .kind) 0 && not (c .named))
 
 -- The step at position n of call c: at an effect the sequential deque serves the call.
 unfoldable pub stepOf : ℕ → Event → Answer → List Entry → LedgerCall → List LedgerCall → Ledger
@@ -245,15 +236,15 @@ pub data InUse (q : Queue) (x : ℕ) : Type 0 where
   pop-gives : (t : ℕ) → t < q .tables .control .tasks → popGives (recordAt q t) x ≡ true → InUse q x
 
 -- *No slot* is true of a queue: if a step answers so, every slot is in use. (Request #104. Without it a program that loses slots passes.)
-abbrev pub NoSlotIn : Queue → Type 0
-NoSlotIn q = (t : ℕ) → act q t Step .outcome ≡ Moved NoFreeSlot → (x : ℕ) → 1 ≤ x → x ≤ q .tables .control .slots → InUse q x
+abbrev pub NoFreeSlotIn : Queue → Type 0
+NoFreeSlotIn q = (t : ℕ) → act q t Step .outcome ≡ Moved NoFreeSlot → (x : ℕ) → 1 ≤ x → x ≤ q .tables .control .slots → InUse q x
 
 -- It is true of the queue after the list.
-abbrev pub NoSlotTrue : Queue → List Request → Type 0
-NoSlotTrue q os = NoSlotIn (final q os)
+abbrev pub NoFreeSlotTrue : Queue → List Request → Type 0
+NoFreeSlotTrue q os = NoFreeSlotIn (final q os)
 
-abbrev pub NoSlotRight : Type 0
-NoSlotRight = AfterOpeningAs true NoSlotTrue
+abbrev pub NoFreeSlotRight : Type 0
+NoFreeSlotRight = AfterOpeningAs true NoFreeSlotTrue
 
 -- Of a queue: a slot's mark is set exactly where P holds of the slot. After a list: of the queue after it.
 abbrev pub MarkedIn : (Queue → ℕ → Type 0) → Queue → Type 0

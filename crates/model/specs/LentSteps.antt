@@ -1,28 +1,23 @@
 -- Lists in which a step on one lent record takes the place of its task's step. (Document 01: The clerk.)
-use mathlib.Core.{Path._≡_, Logic._≢_}
-use mathlib.Core.List.{List, [], _∷_, map}
+use mathlib.Core.{Path._≡_, Logic._≢_, List.{List, [], _∷_, map}}
 use Prim.Native.Nat.{ℕ, _<_, _≤_}
 use lib.ListN.{length}
-use Rattle.model.specs.declared.Record.{Record}
-use Rattle.model.specs.declared.Outcome.the-variants.{Refused}
-use Rattle.model.specs.declared.Op.the-variants.{Step}
-use Rattle.model.specs.Tables.{Tables, Queue, taskAt}
-use Rattle.model.specs.Calls.{Done, back, act, stepLent}
+use Rattle.model.specs.{declared.{Record.Record, Outcome.the-variants.Refused, Op.the-variants.Step}, Lists.All}
+use Rattle.model.specs.{Tables.{Tables, Queue, taskAt}, Calls.{Done, back, act, stepLent}}
 use Rattle.model.specs.History.{Request, Event, run, final}
-use Rattle.model.specs.Lists.{All}
 
 -- An operation of the list; or a task's record is lent, moved on by one step, and put back as the task's row.
 pub data Turn : Type 0 where
-  asked : Request → Turn
+  requested : Request → Turn
   lent : (task : ℕ) → Turn
 
 -- What it stands for in the list.
 abbrev pub requestOf : Turn → Request
-requestOf (asked o) = o
+requestOf (requested o) = o
 requestOf (lent t) = record { task = t; op = Step }
 
 unfoldable pub takeTurn : Queue → Turn → Done
-takeTurn q (asked o) = act q (o .task) (o .op)
+takeTurn q (requested o) = act q (o .task) (o .op)
 takeTurn q (lent t) = back q t (stepLent (q .tables) (taskAt q t))
 
 -- The events of such a list, and the queue after it, as `run` and `final` of one without.
@@ -40,7 +35,7 @@ finalTurns q (u ∷ us) = finalTurns (takeTurn q u .queue) us
 
 -- A record can be lent for a task that there is.
 abbrev pub Lendable : ℕ → Turn → Type 0
-Lendable tasks (asked o) = Unit {0}
+Lendable tasks (requested o) = Unit {0}
 Lendable tasks (lent t) = t < tasks
 
 -- The events and the queue are those of the list without lent records; so every promise of such lists holds.

@@ -1,9 +1,7 @@
 -- Lists: what holds of every entry, entries counted, filled and zeroed.
-use mathlib.Core.Bool.{Bool, true, _&&_, cond}
-use mathlib.Core.List.{List, [], _∷_, _++_}
+use mathlib.Core.{Bool.{Bool, true, _&&_, cond}, List.{List, [], _∷_, _++_}}
 use Prim.Native.Nat.{ℕ, zero, suc, _+_}
-use lib.Dec.{eqb}
-use lib.ListN.{replicate, drop}
+use lib.{Dec.eqb, ListN.{replicate, drop}}
 
 -- Every entry of a list has a property.
 abbrev pub All : {A : Type 0} → (A → Type 0) → List A → Type 0

@@ -1,12 +1,10 @@
 -- The mirror of a queue: left and right exchanged. (Document 01: Places, "for the left swap Left with Right, left end with right end, and RPUSH with LPUSH".)
-use mathlib.Core.{Path._≡_, List.map}
-use mathlib.Core.Bool.{Bool, cond}
+use mathlib.Core.{Path._≡_, List.map, Bool.{Bool, cond}}
 use Prim.Native.Nat.{ℕ}
 use lib.Dec.{eqb}
-use Rattle.word.specs.declared.Anchor.{Anchor}
-use Rattle.word.specs.Anchor.{anchorOf, anchorWord}
-use Rattle.model.specs.declared.{Control.Control, Call.Call, Record.Record, Op.Op}
-use Rattle.model.specs.declared.Op.the-variants.{Push, Pop, PushPooled, Step}
+use Rattle.word.specs.{declared.Anchor.Anchor, Anchor.{anchorOf, anchorWord}}
+use Rattle.model.specs.declared.{Control.Control, Call.Call, Record.Record}
+use Rattle.model.specs.declared.Op.{Op, the-variants.{Push, Pop, PushPooled, Step}}
 use Rattle.model.specs.Tables.{Tables, Queue, tablesOf, withWords, withSeen, ofKind, withCall}
 use Rattle.model.specs.Calls.{OpenDone, Acted, Done, openAs, act, stepLent}
 

@@ -1,11 +1,8 @@
 -- "Only at the end that the status names may the neighbour's link back be unfinished." (Document 01: labels waiting, in order.)
-use mathlib.Core.List.{List, [], _∷_, _++_}
-use mathlib.Core.{Logic._≢_, Path._≡_}
+use mathlib.Core.{List.{List, [], _∷_, _++_}, Logic._≢_, Path._≡_}
 use lib.ListN.{getD}
 use Rattle.word.specs.{Anchor.anchorOf, Link.linkOf}
-use Rattle.model.specs.declared.Entry.{Entry}
-use Rattle.model.specs.Tables.{Tables, Queue}
-use Rattle.model.specs.Walk.{entries, contents}
+use Rattle.model.specs.{declared.Entry.Entry, Tables.{Tables, Queue}, Walk.{entries, contents}}
 use Rattle.model.specs.History.{Request, final, AfterOpening}
 
 -- x stands next to y, on its left, and each names the other; under RPUSH x may not name y yet where y is the last, under LPUSH y not x where x is the first.

@@ -2,9 +2,8 @@
 use mathlib.Core.{Path._≡_, Logic._≢_}
 use Prim.Native.Nat.{ℕ}
 use lib.ListN.{set}
-use Rattle.model.specs.declared.{Record.Record, Op.Op}
-use Rattle.model.specs.declared.Op.the-variants.{Step}
-use Rattle.model.specs.Tables.{Tables, Queue, recordAt, taskAt, withAnchor, withHead, linked, withMarks, withNext, withTaken}
+use Rattle.model.specs.{declared.{Record.Record, Op.{Op, the-variants.Step}}, Tables.withTaken}
+use Rattle.model.specs.Tables.{Tables, Queue, recordAt, taskAt, withAnchor, withHead, linked, withMarks, withNext}
 use Rattle.model.specs.Calls.{act, stepLent}
 
 -- After a step at a place: tables q, or those that differ from q in one word: Anchor, a link word, a word of marks, a next, the head.

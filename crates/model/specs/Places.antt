@@ -1,22 +1,18 @@
 -- What each place does: one touch of the shared tables at the most. (Document 01: Places, the table's columns push and pop.)
 use mathlib.Core.Bool.{Bool, true, false, _&&_, _||_, cond}
 use Prim.Native.Nat.{ℕ, _+_}
-use lib.Dec.{eqb}
-use lib.ListN.{getD, set}
-use Rattle.word.specs.declared.Anchor.{Anchor}
-use Rattle.word.specs.Anchor.{anchorOf, packAnchor}
-use Rattle.word.specs.Link.{linkOf, packLink}
-use Rattle.model.specs.declared.{Control.Control, Call.Call}
-use Rattle.model.specs.Tables.{Tables, isPooled, withMark}
-use Rattle.model.specs.Tables.{withOwn, withSeen, withNeighbour, withLink, withAnchor, withHead, linked, withMarks, withNext, withTaken}
-use Rattle.model.specs.Sides.{opposite, near, far, facing, links, pushing, sideNamed, isEmpty}
-use Rattle.model.specs.Kinds.{isPush, isPop, helping}
-use Rattle.model.specs.Route.{done, equal, failedReading, hasFailed, namedQueue, noneFree, onlyWay, pooledQueue, readEmpty, readSingle}
-use Rattle.model.specs.Route.{readStable, readUnstable, someFree, unequal}
+use lib.{Dec.eqb, ListN.{getD, set}}
+use Rattle.word.specs.{declared.Anchor.Anchor, Anchor.{anchorOf, packAnchor}, Link.{linkOf, packLink}}
+use Rattle.model.specs.{declared.{Control.Control, Call.Call}, Kinds.{isPush, isPop, helping}}
+use Rattle.model.specs.Tables.{Tables, isPooled, withMark, withOwn, withSeen, withNeighbour, withLink, withAnchor}
+use Rattle.model.specs.Tables.{withHead, linked, withMarks, withNext, withTaken}
+use Rattle.model.specs.Sides.{opposite, near, far, facing, links, pushing, statusSide, isEmpty}
+use Rattle.model.specs.Route.{done, equal, failedReading, hasFailed, namedQueue, noneFree, onlyWay, pooledQueue}
+use Rattle.model.specs.Route.{readEmpty, readSingle, readStable, readUnstable, someFree, unequal}
 
 -- The side: at 1 to 4 and 11 the task's, at 5 to 10 the one that the status as read names.
 unfoldable pub sideOf : Call → ℕ
-sideOf r = cond (helping r) (sideNamed (anchorOf (r .seen) .status)) (r .side)
+sideOf r = cond (helping r) (statusSide (anchorOf (r .seen) .status)) (r .side)
 
 -- The end as read at that side: the table's r.
 abbrev pub endSeen : Call → ℕ
@@ -172,12 +168,12 @@ abbrev pub raised : Call → ℕ → ℕ
 raised r x = packLink (record { tag = linkOf (r .link) .tag + 1; slot = x })
 
 -- The empty stack: a head with slot 0.
-abbrev pub noneLeft : ℕ → Bool
-noneLeft head = eqb (linkOf head .slot) 0
+abbrev pub stackEmpty : ℕ → Bool
+stackEmpty head = eqb (linkOf head .slot) 0
 
 -- 12: read the head: the stack is empty, or not.
 unfoldable pub at12 : Control → Call → Move
-at12 c r = reads (withLink r (c .head)) (cond (noneLeft (c .head)) noneFree someFree)
+at12 c r = reads (withLink r (c .head)) (cond (stackEmpty (c .head)) noneFree someFree)
 
 -- 13: read the next of its slot.
 unfoldable pub at13 : Call → ℕ → Move

@@ -1,16 +1,11 @@
 -- How many steps may pass before a call takes effect or answers. (Request #108.)
-use mathlib.Core.Bool.{Bool, true, false, _||_, cond}
-use mathlib.Core.List.{List, [], _∷_}
-use mathlib.Core.{Logic._≢_, Path._≡_}
+use mathlib.Core.{Bool.{Bool, true, false, _||_, cond}, List.{List, [], _∷_}, Logic._≢_, Path._≡_}
 use Prim.Native.Nat.{ℕ, zero, suc, _+_, _*_, _<_, _≤_}
 use lib.Dec.{eqb}
-use Rattle.model.specs.declared.{Outcome.Outcome, Op.Op}
-use Rattle.model.specs.declared.Outcome.the-variants.{Refused, Moved}
-use Rattle.model.specs.declared.Op.the-variants.{Push, Pop, PushPooled, Step}
+use Rattle.model.specs.{declared.Outcome.{Outcome, the-variants.{Refused, Moved}}, Ends.{answerEnds, endsCall}}
+use Rattle.model.specs.{declared.Op.{Op, the-variants.{Push, Pop, PushPooled, Step}}, Solo.{SoloDone, soloRun}}
 use Rattle.model.specs.Tables.{Queue, isPooled, recordAt}
-use Rattle.model.specs.Ends.{answerEnds, endsCall}
 use Rattle.model.specs.History.{Request, Event, run, final, isEffect, AfterOpening}
-use Rattle.model.specs.Solo.{SoloDone, soloRun}
 
 -- A call takes effect or answers: only an accepted step does.
 abbrev pub tookEffectOrAnsweredBy : Event → Op → Outcome → Bool
@@ -74,8 +69,8 @@ SoloWithin q os =
 
 -- After the list os: a stretch that holds so many accepted steps holds a call that takes effect or answers.
 -- (Starts and refused operations may stand between them.)
-abbrev pub StretchTells : Queue → List Request → Type 0
-StretchTells q os =
+abbrev pub StretchProgresses : Queue → List Request → Type 0
+StretchProgresses q os =
     let now = final q os in
     let c = q .tables .control in
     (stretch : List Request) → stretchLimit (isPooled c) (c .tasks) ≤ steps (run now stretch) → any tookEffectOrAnswered (run now stretch) ≡ true
@@ -84,4 +79,4 @@ abbrev pub SoloBound : Type 0
 SoloBound = AfterOpening SoloWithin
 
 abbrev pub StretchBound : Type 0
-StretchBound = AfterOpening StretchTells
+StretchBound = AfterOpening StretchProgresses

@@ -1,16 +1,12 @@
 -- Why a call is refused: the first number that applies. (Document 01: Refused .., and their order.)
-use mathlib.Core.Bool.{Bool, true, false, _&&_, _||_, not, cond}
-use mathlib.Core.List.{List, [], _∷_, _++_}
+use mathlib.Core.{Bool.{Bool, true, false, _&&_, _||_, not, cond}, List.{List, [], _∷_, _++_}}
 use Prim.Native.Nat.{ℕ}
-use lib.Dec.{ltb, leb, eqb}
-use lib.ListN.{length}
+use lib.{Dec.{ltb, leb, eqb}, ListN.length}
 use Rattle.word.specs.{Anchor.anchorOf, Link.linkOf}
-use Rattle.model.specs.declared.{Control.Control, Call.Call, Asked.Asked}
-use Rattle.model.specs.Tables.{Tables, Queue, isPooled, marked}
+use Rattle.model.specs.{declared.{Control.Control, Call.Call, Asked.Asked}, Walk.{contents, isBroken}}
+use Rattle.model.specs.{Tables.{Tables, Queue, isPooled, marked}, Places.{setHead, move}, Lists.every}
 use Rattle.model.specs.Sound.{from1, anchorSound, linkSound, controlSound, recordSound, rowsFit}
-use Rattle.model.specs.Walk.{contents, isBroken}
-use Rattle.model.specs.Places.{row, wordFound, Touch, nothing, setAnchor, setLink, clearMark, takeSlot, setNext, setHead, move}
-use Rattle.model.specs.Lists.{every}
+use Rattle.model.specs.Places.{row, wordFound, Touch, nothing, setAnchor, setLink, clearMark, takeSlot, setNext}
 
 -- A test with its number.
 pub record Rule : Type 0 where
@@ -112,8 +108,8 @@ nothingAsked = record { wrong = false; outside = false; taken = false }
 abbrev pub pushRefusal : Tables → Lent → Call → ℕ → ℕ → ℕ
 pushRefusal q p r side slot = startRefusal (q .control) (fits q) p r side (namedPush q slot)
 
-abbrev pub putRefusal : Tables → Lent → Call → ℕ → ℕ
-putRefusal q p r side = startRefusal (q .control) (fits q) p r side (pooledPush q)
+abbrev pub pushPooledRefusal : Tables → Lent → Call → ℕ → ℕ
+pushPooledRefusal q p r side = startRefusal (q .control) (fits q) p r side (pooledPush q)
 
 abbrev pub popRefusal : Tables → Lent → Call → ℕ → ℕ
 popRefusal q p r side = startRefusal (q .control) (fits q) p r side nothingAsked

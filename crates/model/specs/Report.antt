@@ -1,16 +1,11 @@
 -- The report. (Document 01: Places, below the table; document 02, #101 and #102.)
-use mathlib.Core.Bool.{Bool, not, cond}
-use mathlib.Core.List.{List}
+use mathlib.Core.{Bool.{Bool, not, cond}, List.List}
 use Prim.Native.Nat.{ℕ, _+_}
-use lib.Dec.{eqb, ltb}
-use lib.ListN.{length}
+use lib.{Dec.{eqb, ltb}, ListN.length}
 use Rattle.word.specs.Anchor.{anchorOf}
-use Rattle.model.specs.declared.{Report.Report, Reported.Reported}
+use Rattle.model.specs.{declared.{Report.Report, Reported.Reported}, Walk.{contents, met}, Lists.{count, listed}}
+use Rattle.model.specs.{Tables.{Tables, Queue, marked, recordAt, taskAt}, Refusals.{recordsFit, reportRefusal}}
 use Rattle.model.specs.declared.Reported.the-variants as reported
-use Rattle.model.specs.Tables.{Tables, Queue, marked, recordAt, taskAt}
-use Rattle.model.specs.Walk.{contents, met}
-use Rattle.model.specs.Refusals.{recordsFit, reportRefusal}
-use Rattle.model.specs.Lists.{count, listed}
 
 -- Busy: the tasks with a place other than 0.
 unfoldable pub busy : Queue → ℕ

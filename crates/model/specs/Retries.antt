@@ -1,15 +1,9 @@
 -- The failed changes of each task, and of all together. (Request #101.)
-use mathlib.Core.Path.{_≡_}
-use mathlib.Core.Bool.{Bool, false, _&&_}
-use mathlib.Core.List.{List, [], _∷_}
+use mathlib.Core.{Path._≡_, Bool.{Bool, false, _&&_}, List.{List, [], _∷_}}
 use Prim.Native.Nat.{ℕ, zero, suc, _+_, _<_}
 use lib.Dec.{eqb}
-use Rattle.model.specs.declared.Op.{Op}
-use Rattle.model.specs.declared.Op.the-variants.{Push, Pop, PushPooled, Step}
-use Rattle.model.specs.Tables.{Queue, taskAt, recordAt}
-use Rattle.model.specs.Places.{wordFound, move}
-use Rattle.model.specs.{Route.counted, Calls.act}
-use Rattle.model.specs.Refusals.{among, stepRefusal}
+use Rattle.model.specs.{declared.Op.{Op, the-variants.{Push, Pop, PushPooled, Step}}, Places.{wordFound, move}}
+use Rattle.model.specs.{Tables.{Queue, taskAt, recordAt}, Route.counted, Calls.act, Refusals.{among, stepRefusal}}
 use Rattle.model.specs.History.{Request, final, AfterOpening}
 
 -- A step that is carried out and whose change fails: at 2, 4, 9, 10, 14 or 17.

@@ -1,12 +1,9 @@
 -- The route from place to place, and what a step answers. (Document 01: Places, the column next, and below the table.)
-use mathlib.Core.Bool.{Bool, cond}
-use mathlib.Core.List.{List, [], _∷_}
+use mathlib.Core.{Bool.{Bool, cond}, List.{List, [], _∷_}}
 use Prim.Native.Nat.{ℕ, _+_}
-use lib.Dec.{ltb, leb, eqb}
-use lib.ListN.{getD}
-use Rattle.model.specs.declared.{Call.Call, Entry.Entry, Answer.Answer}
-use Rattle.model.specs.declared.Answer.the-variants.{Running, Pushed, Empty, Popped, NoFreeSlot}
-use Rattle.model.specs.Tables.{atPlace, idle}
+use lib.{Dec.{ltb, leb, eqb}, ListN.getD}
+use Rattle.model.specs.{declared.{Call.Call, Entry.Entry}, Tables.{atPlace, idle}}
+use Rattle.model.specs.declared.Answer.{Answer, the-variants.{Running, Pushed, Empty, Popped, NoFreeSlot}}
 
 -- Where a route leads: to a place, 1 to 17, or to one of these.
 abbrev pub leave : ℕ
@@ -21,8 +18,8 @@ empty = 22
 abbrev pub popped : ℕ
 popped = 23
 
-abbrev pub noSlot : ℕ
-noSlot = 24
+abbrev pub noFreeSlot : ℕ
+noFreeSlot = 24
 
 -- The branches of a place. Where it goes one way:
 abbrev pub onlyWay : ℕ
@@ -94,7 +91,7 @@ pushRoute =
     ∷ (10 ∷ leave ∷ [])  -- 9: done, failed
     ∷ (leave ∷ leave ∷ [])  -- 10: done, failed
     ∷ []  -- 11: no push
-    ∷ (noSlot ∷ 13 ∷ [])  -- 12: slot 0, else
+    ∷ (noFreeSlot ∷ 13 ∷ [])  -- 12: slot 0, else
     ∷ (14 ∷ [])  -- 13
     ∷ (1 ∷ 12 ∷ [])  -- 14: done, failed
     ∷ []
@@ -134,7 +131,7 @@ answer n e =
     cond (eqb n pushed) Pushed
     (cond (eqb n empty) Empty
     (cond (eqb n popped) (Popped e)
-    (cond (eqb n noSlot) NoFreeSlot
+    (cond (eqb n noFreeSlot) NoFreeSlot
     (Running n))))
 
 -- The record at its next place; after an answer it is all zero.

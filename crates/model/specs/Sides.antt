@@ -1,6 +1,5 @@
 -- Sides and the ends of Anchor, the status that names a side. (Document 01: Tables, Places.)
-use mathlib.Core.Bool.{Bool, _&&_, cond}
-use mathlib.Core.List.{List}
+use mathlib.Core.{Bool.{Bool, _&&_, cond}, List.List}
 use Prim.Native.Nat.{ℕ}
 use lib.Dec.{eqb}
 use Rattle.word.specs.declared.Anchor.{Anchor}
@@ -30,8 +29,8 @@ links q side = cond (eqb side 1) (q .rights) (q .lefts)
 abbrev pub pushing : ℕ → ℕ
 pushing side = cond (eqb side 1) 1 2
 
-abbrev pub sideNamed : ℕ → ℕ
-sideNamed status = cond (eqb status 1) 1 0
+abbrev pub statusSide : ℕ → ℕ
+statusSide status = cond (eqb status 1) 1 0
 
 -- An Anchor with null ends.
 abbrev pub isEmpty : Anchor → Bool

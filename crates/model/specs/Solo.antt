@@ -1,18 +1,10 @@
 -- A task stepped until it answers. (Request #108.)
-use mathlib.Core.Bool.{cond, true}
-use mathlib.Core.List.{List, [], _∷_}
-use mathlib.Core.{Logic._≢_, Path._≡_}
+use mathlib.Core.{Bool.{cond, true}, List.{List, [], _∷_}, Logic._≢_, Path._≡_}
 use Prim.Native.Nat.{ℕ, zero, suc}
 use lib.ListN.{replicate}
-use Rattle.model.specs.declared.Answer.the-variants.{Running}
-use Rattle.model.specs.declared.Outcome.{Outcome}
-use Rattle.model.specs.declared.Outcome.the-variants.{Moved, Refused}
-use Rattle.model.specs.declared.Op.the-variants.{Step}
-use Rattle.model.specs.Tables.{Queue, recordAt}
-use Rattle.model.specs.Calls.{Done, act}
-use Rattle.model.specs.Ends.{isMoved, isRunning}
-use Rattle.model.specs.History.{AfterOpening, Event, Request, final, run}
-use Rattle.model.specs.Lists.{All}
+use Rattle.model.specs.declared.{Answer.the-variants.Running, Outcome.{Outcome, the-variants.{Moved, Refused}}}
+use Rattle.model.specs.{declared.Op.the-variants.Step, Tables.{Queue, recordAt}, Calls.{Done, act}, Lists.All}
+use Rattle.model.specs.{Ends.{isMoved, isRunning}, History.{AfterOpening, Event, Request, final, run}}
 
 -- What a run leaves, its outcome, and how many steps were made.
 pub record SoloDone : Type 0 where

@@ -1,14 +1,9 @@
 -- What is sound, and which tables are long enough: refusals 34 and 12. (Document 01: Refused because of the input, .. of the state.)
-use mathlib.Core.Bool.{Bool, _&&_, _||_, not, cond, Bool·beq}
-use mathlib.Core.List.{List, [], _∷_, _++_}
+use mathlib.Core.{Bool.{Bool, _&&_, _||_, not, cond, Bool·beq}, List.{List, [], _∷_, _++_}}
 use Prim.Native.Nat.{ℕ, _/_}
-use lib.Dec.{ltb, leb, eqb}
-use lib.ListN.{length}
-use Rattle.word.specs.declared.Anchor.{Anchor}
-use Rattle.word.specs.Anchor.{anchorOf}
-use Rattle.word.specs.Link.{linkOf, spareOf}
-use Rattle.model.specs.declared.{Control.Control, Call.Call}
-use Rattle.model.specs.{Tables.Tables, Lists.every}
+use lib.{Dec.{ltb, leb, eqb}, ListN.length}
+use Rattle.word.specs.{declared.Anchor.Anchor, Anchor.anchorOf, Link.{linkOf, spareOf}}
+use Rattle.model.specs.{declared.{Control.Control, Call.Call}, Tables.Tables, Lists.every}
 use Rattle.model.specs.Kinds.{isPush, isPop, helping, drawing, giving, owning}
 
 -- x is 1 to n.
@@ -45,8 +40,8 @@ unfoldable pub controlSound : Control → Bool
 controlSound c = every (controlTests c)
 
 -- At 13 and 14 the head as read names a slot.
-abbrev pub headNamed : Call → Bool
-headNamed r = not (eqb (r .place) 13 || eqb (r .place) 14) || not (eqb (linkOf (r .link) .slot) 0)
+abbrev pub headHasSlot : Call → Bool
+headHasSlot r = not (eqb (r .place) 13 || eqb (r .place) 14) || not (eqb (linkOf (r .link) .slot) 0)
 
 -- Record: idle, or each field within its meaning, in a pooled queue or in a named one: what the place asks of the call, and what was read.
 abbrev pub callTests : Bool → ℕ → Call → List Bool
@@ -59,7 +54,7 @@ callTests pooled slots r =
     ∷ (not (drawing r) || isPush r)
     ∷ (eqb (r .finishing) 0 || (isPush r && helping r))
     ∷ cond (owning r) (from1 slots (r .own)) (eqb (r .own) 0)
-    ∷ headNamed r
+    ∷ headHasSlot r
     ∷ []
 
 abbrev pub readTests : ℕ → Call → List Bool

@@ -3,9 +3,7 @@ use mathlib.Core.Path.{_≡_}
 use Prim.Native.Nat.{ℕ, _+_, _<_, _≤_}
 use lib.ListN.{getD}
 use Rattle.word.specs.Link.{linkOf}
-use Rattle.model.specs.declared.Opening.the-variants.{Opened}
-use Rattle.model.specs.Tables.{Tables, Queue}
-use Rattle.model.specs.Calls.{openPooled}
+use Rattle.model.specs.{declared.Opening.the-variants.Opened, Tables.{Tables, Queue}, Calls.openPooled}
 
 -- Slot 1 is on top, with tag 0. Row n holds n + 1, rows 0 and slots hold 0; rows beyond keep their values.
 pub record Stacked (slots : ℕ) (before after : Tables) : Type 0 where

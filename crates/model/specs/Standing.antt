@@ -1,11 +1,7 @@
 -- What a call that walks relies on. (Document 02: #102, #107, #109, #110, #111, #113.)
-use mathlib.Core.{Path._≡_, List.List}
-use mathlib.Core.Bool.{true, _&&_}
-use Rattle.model.specs.declared.Entry.{Entry}
-use Rattle.model.specs.{Tables.Queue, Sound.controlSound}
-use Rattle.model.specs.Walk.{contents, entries}
-use Rattle.model.specs.Refusals.{fits, recordsFit}
-use Rattle.model.specs.History.{AfterOpening, final, ledger, run}
+use mathlib.Core.{Path._≡_, List.List, Bool.{true, _&&_}}
+use Rattle.model.specs.{declared.Entry.Entry, Tables.Queue, Sound.controlSound, Walk.{contents, entries}}
+use Rattle.model.specs.{Refusals.{fits, recordsFit}, History.{AfterOpening, final, ledger, run}}
 
 -- Control and Anchor are sound, every table is long enough, and the walk meets the entries d: so no 34 applies, and no 12 to the queue's tables.
 pub record Standing (q : Queue) (d : List Entry) : Type 0 where

@@ -1,9 +1,7 @@
 -- The lent tables as lists of numbers. (Document 01: Tables.)
-use mathlib.Core.Bool.{Bool, cond}
-use mathlib.Core.List.{List}
+use mathlib.Core.{Bool.{Bool, cond}, List.List}
 use Prim.Native.Nat.{ℕ, _+_, _*_, _/_, _%_, _^_}
-use lib.Dec.{eqb}
-use lib.ListN.{getD, set}
+use lib.{Dec.eqb, ListN.{getD, set}}
 use Rattle.word.specs.Anchor.{packAnchor, emptyAnchor}
 use Rattle.model.specs.declared.{Control.Control, Call.Call, Record.Record}
 

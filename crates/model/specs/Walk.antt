@@ -1,14 +1,9 @@
 -- The labels waiting, in order. (Document 01: Places, below the table; document 02, #102.)
-use mathlib.Core.Bool.{Bool, true, false, cond}
-use mathlib.Core.List.{List, [], _∷_, map}
-use mathlib.Core.Path.{_≡_}
+use mathlib.Core.{Bool.{Bool, true, false, cond}, List.{List, [], _∷_, map}, Path._≡_}
 use Prim.Native.Nat.{ℕ, zero, suc, _<_}
-use lib.Dec.{eqb}
-use lib.ListN.{getD, length}
+use lib.{Dec.eqb, ListN.{getD, length}}
 use Rattle.word.specs.{Anchor.anchorOf, Link.linkOf}
-use Rattle.model.specs.declared.Entry.{Entry}
-use Rattle.model.specs.{Tables.Tables, Deque.seenFrom}
-use Rattle.model.specs.Sound.{from1, linkSound}
+use Rattle.model.specs.{declared.Entry.Entry, Tables.Tables, Deque.seenFrom, Sound.{from1, linkSound}}
 use Rattle.model.specs.Sides.{opposite, near, far, links, isEmpty}
 
 -- A walk of the queue: its entries, or broken.

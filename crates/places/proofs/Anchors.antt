@@ -1,26 +1,20 @@
 -- The model's step at the places that touch Anchor alone, in the terms of this crate: 1, 2, 4, 6, 8 and 10.
-use mathlib.Core.Path.{_≡_, refl, ap}
-use mathlib.Core.Bool.{true, false, cond}
+use mathlib.Core.{Path.{_≡_, refl, ap}, Bool.{true, false, cond}}
 use Prim.Native.Nat.{ℕ, _+_, _/_, _^_}
 use lib.Dec.{eqb, ltb}
-use borrow.Author.Tests.{eq-eqb, ne-eqb}
+use borrow.Author.Tests.{eq-eqb, ne-eqb, not-true, not-false}
 use Rattle.word.specs.Anchor.{anchorOf, packAnchor}
-use Rattle.model.specs.declared.{Control.Control, Call.Call, Transition.Transition}
-use Rattle.model.specs.Tables.{atPlace, tablesOf, withSeen}
-use Rattle.model.specs.{Sound.anchorSound, Kinds.isPop}
+use Rattle.model.specs.{declared.{Control.Control, Call.Call, Transition.Transition}, Sound.anchorSound, Kinds.isPop}
+use Rattle.model.specs.{Tables.{atPlace, tablesOf, withSeen}, Refusals.{needsRow, meetsLink, meetsHead, stepSound}}
 use Rattle.model.specs.Places.{reading, sideOf, nothing, setAnchor, Move, compares, at1, at2, at4, at6, at10, move}
+use Rattle.model.specs.{Route.{route, pushRoute, popRoute, goes, counted}, Calls.{entryOf, finish}}
+use Rattle.model.{specs.Sides.{far, facing, pushing}, proofs.{laws.Onward.reads-on, tests.Truth.split}}
 use Rattle.model.specs.Places as model-places
-use Rattle.model.specs.Refusals.{needsRow, meetsLink, meetsHead, stepSound}
-use Rattle.model.specs.Route.{route, pushRoute, popRoute, goes, counted}
-use Rattle.model.specs.Calls.{entryOf, finish}
-use Rattle.model.proofs.laws.Onward.{reads-on}
 use Rattle.table.specs.Lent.{withTables}
 use Rattle.places.specs.Arm.{stepAt, Steps}
-use Rattle.decide.specs.Ending.{refused, settled, noEntry, failing, anchored, mayChange, remembered, compared}
-use Rattle.decide.specs.Decided.{new2, new4, new10}
+use Rattle.decide.specs.Ending.{refused, settled, noEntry, failing, anchored, mayChange, changeRefused, remembered}
+use Rattle.decide.specs.{Ending.compared, Decided.{new2, new4, new10}}
 use Rattle.decide.proofs.Routes.{kinds, readings, Quiet, quietly}
-use Rattle.model.proofs.tests.Truth.{split}
-use Rattle.model.specs.Sides.{far, facing, pushing}
 
 -- A change of Anchor from the word as read to new: done leads the record t on; failed is what a failed one comes to.
 unfoldable pub changed : Control → Call → ℕ → Call → ℕ → Transition → Transition
@@ -38,13 +32,13 @@ module _ {n : ℕ} {c : Control} {r : Call} {new : ℕ} {t : Call} {done : ℕ} 
   unfolding changed
   fails h = rw (ne-eqb _ _ h) at (tried .steps)
 
-  pub denies : c .anchor ≡ r .seen → mayChange (c .slots) (r .seen) new ≡ false → Steps n c r (refused c r)
-  unfolding changed
-  denies h s = rw (eq-eqb _ _ h, s) at (tried .steps)
+  pub denies : c .anchor ≡ r .seen → changeRefused c r new ≡ true → Steps n c r (refused c r)
+  unfolding changed changeRefused
+  denies h s = rw (eq-eqb _ _ h, not-true (mayChange (c .slots) (r .seen) new) (rw (eq-eqb _ _ h) at s)) at (tried .steps)
 
-  pub makes : c .anchor ≡ r .seen → mayChange (c .slots) (r .seen) new ≡ true → Steps n c r (settled (anchored c new) t done noEntry)
-  unfolding changed
-  makes h s = rw (eq-eqb _ _ h, s) at (tried .steps)
+  pub makes : c .anchor ≡ r .seen → changeRefused c r new ≡ false → Steps n c r (settled (anchored c new) t done noEntry)
+  unfolding changed changeRefused
+  makes h s = rw (eq-eqb _ _ h, not-false (mayChange (c .slots) (r .seen) new) (rw (eq-eqb _ _ h) at s)) at (tried .steps)
 
 module _ (c : Control) (r : Call) where
   -- The outcome of reading Anchor, and the record with the word read.

@@ -1,26 +1,18 @@
 -- The model's step at the places that touch a slot row or a mark, in the terms of this crate: 3, 5, 7, 9 and 11.
-use mathlib.Core.Path.{_≡_, refl, ap, _∙_}
-use mathlib.Core.Bool.{Bool, true, false, not, cond}
-use mathlib.Core.List.{List}
+use mathlib.Core.{Path.{_≡_, refl, ap, _∙_}, Bool.{Bool, true, false, not, cond}, List.List}
 use Prim.Native.Nat.{ℕ, _+_, _/_, _^_}
-use lib.Dec.{eqb, ltb}
-use lib.ListN.{getD, set}
-use Rattle.word.specs.Anchor.{anchorOf}
-use Rattle.word.specs.Link.{linkOf, packLink}
-use Rattle.model.specs.declared.{Control.Control, Call.Call, Transition.Transition}
+use lib.{Dec.{eqb, ltb}, ListN.{getD, set}}
+use Rattle.word.specs.{Anchor.anchorOf, Link.{linkOf, packLink}}
+use Rattle.model.specs.{declared.{Control.Control, Call.Call, Transition.Transition}, Sound.{from1, linkSound}}
 use Rattle.model.specs.Tables.{Tables, isPooled, withMark, tablesOf, withNeighbour, withLink, withOwn}
-use Rattle.model.specs.Sound.{from1, linkSound}
-use Rattle.model.specs.Places.{row, sideOf, linkSide, at3, at5, at7, at9, at11, move}
-use Rattle.model.specs.Refusals.{stepSound}
-use Rattle.model.specs.Route.{route, pushRoute, popRoute, goes, counted}
-use Rattle.model.specs.Calls.{Acted, finish}
+use Rattle.model.specs.{Places.{row, sideOf, linkSide, at3, at5, at7, at9, at11, move}, Refusals.stepSound}
+use Rattle.model.specs.{Route.{route, pushRoute, popRoute, goes, counted}, Calls.{Acted, finish}}
+use Rattle.model.proofs.tests.Truth.{split}
 use Rattle.table.specs.Lent.{withTables}
 use Rattle.places.specs.Arm.{stepAt}
 use Rattle.decide.specs.Ending.{refused, settled, noEntry, failing, rowSound, neighbourRead, linkRead}
-use Rattle.decide.specs.declared.touched.LinkWord.{LinkWord}
+use Rattle.decide.{specs.declared.touched.LinkWord.LinkWord, proofs.Routes.{kinds, Quiet, entry, quietly}}
 use Rattle.decide.specs.Decided.{madeOf, link3, link7, new3, new9, found3, found5, found7, found9, found11}
-use Rattle.decide.proofs.Routes.{kinds, Quiet, entry, quietly}
-use Rattle.model.proofs.tests.Truth.{split}
 
 -- The side that a status names, and the opposite of a side.
 mirror : (b : Bool) → eqb (cond b 1 0) 1 ≡ b
@@ -39,8 +31,8 @@ module _ (c : Control) (r : Call) where
   abbrev pub own : Bool
   own = eqb (r .side) 1
 
-  abbrev pub named : Bool
-  named = eqb (anchorOf (r .seen) .status) 1
+  abbrev pub statusRight : Bool
+  statusRight = eqb (anchorOf (r .seen) .status) 1
 
   module _ (ls rs ns ms xs : List ℕ) (k : ℕ) where
     abbrev lent : Transition → Acted
@@ -82,25 +74,25 @@ module _ (c : Control) (r : Call) where
         (λ l. simp (k, turn, f, l)))
         (λ f. simp (k, turn, f))
 
-    read5 : lent (neighbourRead c r (end named) (getD (cond (not named) rs ls) (end named) 0) (route 5 (r .kind) 0)) ≡ stepAt 5 q r k
+    read5 : lent (neighbourRead c r (end statusRight) (getD (cond (not statusRight) rs ls) (end statusRight) 0) (route 5 (r .kind) 0)) ≡ stepAt 5 q r k
     unfolding stepAt stepSound move row sideOf linkSide at5 finish neighbourRead rowSound settled goes counted route pushRoute popRoute
     read5 =
-        let w = getD (cond (not named) rs ls) (end named) 0 in
-        split (from1 (c .slots) (end named))
+        let w = getD (cond (not statusRight) rs ls) (end statusRight) 0 in
+        split (from1 (c .slots) (end statusRight))
         (λ f. split (linkSound (c .slots) w)
         (λ l. simp (mirror, turn, f, l)
-        (ap lent (quietly c (withNeighbour r (linkOf w .slot)) (route 5 (r .kind) 0) (entry (end named) ns) (kinds Quiet 5 (r .kind) 0 refl refl))))
+        (ap lent (quietly c (withNeighbour r (linkOf w .slot)) (route 5 (r .kind) 0) (entry (end statusRight) ns) (kinds Quiet 5 (r .kind) 0 refl refl))))
         (λ l. simp (mirror, turn, f, l)))
         (λ f. simp (mirror, turn, f))
 
-    read7 : lent (linkRead c r (end named) (getD (cond named rs ls) (r .neighbour) 0) (route 7 (r .kind) 0) (route 7 (r .kind) 1))
+    read7 : lent (linkRead c r (end statusRight) (getD (cond statusRight rs ls) (r .neighbour) 0) (route 7 (r .kind) 0) (route 7 (r .kind) 1))
         ≡ stepAt 7 q r k
     unfolding stepAt stepSound move row sideOf linkSide at7 finish linkRead rowSound settled goes counted route pushRoute popRoute
     read7 =
-        let w = getD (cond named rs ls) (r .neighbour) 0 in
+        let w = getD (cond statusRight rs ls) (r .neighbour) 0 in
         split (from1 (c .slots) (r .neighbour))
         (λ f. split (linkSound (c .slots) w)
-        (λ l. split (eqb (linkOf w .slot) (end named))
+        (λ l. split (eqb (linkOf w .slot) (end statusRight))
         (λ s. simp (mirror, f, l, s) (ap lent
         (quietly c (withLink r w) (route 7 (r .kind) 0) (entry (r .neighbour) ns) (kinds Quiet 7 (r .kind) 0 refl refl))))
         (λ s. simp (mirror, f, l, s) (ap lent
@@ -110,9 +102,10 @@ module _ (c : Control) (r : Call) where
 
     tests9 :
         cond (from1 (c .slots) (r .neighbour))
-        (cond (eqb (getD (cond named rs ls) (r .neighbour) 0) (r .link))
+        (cond (eqb (getD (cond statusRight rs ls) (r .neighbour) 0) (r .link))
         (cond (ltb (linkOf (r .link) .tag) 4294967295)
-        (linked (settled c r (route 9 (r .kind) 0) noEntry) named (r .neighbour) (packLink (record { tag = r .link / 2 ^ 32 + 1; slot = end named })))
+        (linked (settled c r (route 9 (r .kind) 0) noEntry) statusRight (r .neighbour)
+        (packLink (record { tag = r .link / 2 ^ 32 + 1; slot = end statusRight })))
         (lent (refused c r)))
         (lent (failing (settled c r (route 9 (r .kind) 1) noEntry))))
         (lent (refused c r))
@@ -120,9 +113,9 @@ module _ (c : Control) (r : Call) where
     unfolding stepAt stepSound move row sideOf linkSide at9 finish settled goes counted route pushRoute popRoute
     tests9 =
         split (from1 (c .slots) (r .neighbour))
-        (λ f. split (eqb (getD (cond named rs ls) (r .neighbour) 0) (r .link))
+        (λ f. split (eqb (getD (cond statusRight rs ls) (r .neighbour) 0) (r .link))
         (λ s. split (ltb (linkOf (r .link) .tag) 4294967295)
-        (λ t. simp (mirror, f, s, t) (ap (λ m. linked m named (r .neighbour) (packLink (record { tag = r .link / 2 ^ 32 + 1; slot = end named })))
+        (λ t. simp (mirror, f, s, t) (ap (λ m. linked m statusRight (r .neighbour) (packLink (record { tag = r .link / 2 ^ 32 + 1; slot = end statusRight })))
         (quietly c r (route 9 (r .kind) 0) (entry (r .neighbour) ns) (kinds Quiet 9 (r .kind) 0 refl refl))))
         (λ t. simp (mirror, f, s, t)))
         (λ s. simp (mirror, f, s) (ap (λ m. lent (failing m))
@@ -172,23 +165,23 @@ module _ (c : Control) (r : Call) where
     unfolding found3
     read3 pop = rw pop (pop3 pop)
 
-    pub step5 : lent (found5 c r (getD (cond (not named) rs ls) (end named) 0)) ≡ stepAt 5 q r k
+    pub step5 : lent (found5 c r (getD (cond (not statusRight) rs ls) (end statusRight) 0)) ≡ stepAt 5 q r k
     unfolding found5
     step5 = read5
 
-    pub step7 : lent (found7 c r (getD (cond named rs ls) (r .neighbour) 0)) ≡ stepAt 7 q r k
+    pub step7 : lent (found7 c r (getD (cond statusRight rs ls) (r .neighbour) 0)) ≡ stepAt 7 q r k
     unfolding found7
     step7 = read7
 
     abbrev links9 : Transition → Acted
-    links9 m = cond (madeOf m) (linked m named (r .neighbour) (new9 r)) (lent m)
+    links9 m = cond (madeOf m) (linked m statusRight (r .neighbour) (new9 r)) (lent m)
 
-    pub step9 : (m : Transition) → m ≡ found9 c r (getD (cond named rs ls) (r .neighbour) 0) → links9 m ≡ stepAt 9 q r k
+    pub step9 : (m : Transition) → m ≡ found9 c r (getD (cond statusRight rs ls) (r .neighbour) 0) → links9 m ≡ stepAt 9 q r k
     unfolding found9 settled
     step9 m e =
         ap links9 e
         ∙ split (from1 (c .slots) (r .neighbour))
-        (λ f. split (eqb (getD (cond named rs ls) (r .neighbour) 0) (r .link))
+        (λ f. split (eqb (getD (cond statusRight rs ls) (r .neighbour) 0) (r .link))
         (λ s. split (ltb (linkOf (r .link) .tag) 4294967295)
         (λ t. rw (f, s, t) (rw (f, s, t) at tests9))
         (λ t. rw (f, s, t) (rw (f, s, t) at tests9)))
@@ -209,11 +202,11 @@ module _ (c : Control) (r : Call) where
       pub help-made : l ≡ link7 r → m ≡ found9 c r w → puts (new9 r) ≡ stepAt 9 q r k
       help-made e d = rw e (step9 m (rw (found, e) at d))
 
-    pub taken11 : from1 (c .slots) (end own) ≡ true
+    pub cleared11 : from1 (c .slots) (end own) ≡ true
         → withTables (found11 c r (getD ns (end own) 0)) ls rs ns (withMark ms (end own) 0) xs k ≡ stepAt 11 q r k
     unfolding found11
-    taken11 f = split (isPooled c) (λ p. rw (f, p) (rw f at (pooled11 p))) (λ p. rw (f, p) (rw f at (named11 p)))
+    cleared11 f = split (isPooled c) (λ p. rw (f, p) (rw f at (pooled11 p))) (λ p. rw (f, p) (rw f at (named11 p)))
 
-    pub left11 : from1 (c .slots) (end own) ≡ false → (l : ℕ) → lent (found11 c r l) ≡ stepAt 11 q r k
+    pub unsound11 : from1 (c .slots) (end own) ≡ false → (l : ℕ) → lent (found11 c r l) ≡ stepAt 11 q r k
     unfolding found11
-    left11 f l = rw f (refused11 f)
+    unsound11 f l = rw f (refused11 f)

@@ -1,22 +1,17 @@
 -- The model's step at the places that draw a slot from the stack and give it back, in the terms of this crate: 12 to 17.
-use mathlib.Core.Path.{_≡_, refl, ap, _∙_}
-use mathlib.Core.{Bool.cond, List.List}
+use mathlib.Core.{Path.{_≡_, refl, ap, _∙_}, Bool.cond, List.List}
 use Prim.Native.Nat.{ℕ, _+_, _/_, _^_}
-use lib.Dec.{eqb, leb, ltb}
-use lib.ListN.{getD, set}
+use lib.{Dec.{eqb, leb, ltb}, ListN.{getD, set}}
 use Rattle.word.specs.Link.{linkOf, packLink}
-use Rattle.model.specs.declared.{Control.Control, Call.Call, Transition.Transition}
+use Rattle.model.specs.{declared.{Control.Control, Call.Call, Transition.Transition}, Sound.linkSound}
 use Rattle.model.specs.Tables.{Tables, atPlace, withMark, tablesOf, withNeighbour, withLink, withOwn}
-use Rattle.model.specs.{Sound.linkSound, Refusals.stepSound}
-use Rattle.model.specs.Places.{row, at12, at13, at14, at15, at16, at17, move}
-use Rattle.model.specs.Route.{route, pushRoute, popRoute, goes, counted}
-use Rattle.model.specs.Calls.{Acted, entryOf, finish}
+use Rattle.model.specs.{Refusals.stepSound, Places.{row, at12, at13, at14, at15, at16, at17, move}}
+use Rattle.model.specs.{Route.{route, pushRoute, popRoute, goes, counted}, Calls.{Acted, entryOf, finish}}
+use Rattle.model.proofs.tests.Truth.{split}
 use Rattle.table.specs.Lent.{withTables}
 use Rattle.places.specs.Arm.{stepAt}
 use Rattle.decide.specs.Ending.{refused, settled, noEntry, failing, headed, headRead}
-use Rattle.decide.specs.Decided.{madeOf, top, new17, found13, found14}
-use Rattle.decide.proofs.Routes.{kinds, Quiet, quietly}
-use Rattle.model.proofs.tests.Truth.{split}
+use Rattle.decide.{specs.Decided.{madeOf, top, new17, found13, found14}, proofs.Routes.{kinds, Quiet, quietly}}
 
 module _ (c : Control) (r : Call) (ls rs ns ms xs : List ℕ) (k : ℕ) where
   abbrev lent : Transition → Acted

@@ -1,11 +1,8 @@
 -- The step at one place, once all that is tested before the place has passed.
 use mathlib.Core.{Path._≡_, Bool.cond, List.List}
 use Prim.Native.Nat.{ℕ}
-use Rattle.model.specs.declared.{Control.Control, Call.Call, Transition.Transition}
-use Rattle.model.specs.Tables.{Tables, atPlace, tablesOf}
-use Rattle.model.specs.Places.{wordFound, move}
-use Rattle.model.specs.Refusals.{stepSound}
-use Rattle.model.specs.Calls.{Acted, decide, finish}
+use Rattle.model.specs.{declared.{Control.Control, Call.Call, Transition.Transition}, Places.{wordFound, move}}
+use Rattle.model.specs.{Tables.{Tables, atPlace, tablesOf}, Refusals.stepSound, Calls.{Acted, decide, finish}}
 use Rattle.table.specs.Lent.{withTables}
 
 -- 34 for what place n touches, else what it does, for a task with so many retries.

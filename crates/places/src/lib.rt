@@ -48,7 +48,7 @@ fn change2(c: Control, r: Call) -> Transition
     ensures { λ m. ⌜ (c .anchor ≡ r .seen → Steps 2 c r m) ⌝ }
 {
     let new = decide::new2(r);
-    if !step::may_change(c.slots, r.seen, new) {
+    if step::change_refused(c, r, new) {
         return step::refused(c, r);
     }
     let d = step::with_anchor(c, new);
@@ -98,7 +98,7 @@ fn change4(c: Control, r: Call) -> Transition
     ensures { λ m. ⌜ (c .anchor ≡ r .seen → Steps 4 c r m) ⌝ }
 {
     let new = decide::new4(r);
-    if !step::may_change(c.slots, r.seen, new) {
+    if step::change_refused(c, r, new) {
         return step::refused(c, r);
     }
     let d = step::with_anchor(c, new);
@@ -170,7 +170,7 @@ pub fn at10(c: Control, r: Call) -> Transition
         return step::fails(m);
     }
     let new = decide::new10(r);
-    if !step::may_change(c.slots, r.seen, new) {
+    if step::change_refused(c, r, new) {
         return step::refused(c, r);
     }
     let d = step::with_anchor(c, new);
@@ -185,7 +185,7 @@ pub fn at11(c: Control, r: Call, labels: &[u32], marks: &mut [u64]) -> Transitio
 {
     let end = touched::own_end(r);
     let label = table::label_at(labels, end);
-    if sound::from1(c.slots, end) {
+    if touched::is_slot(c.slots, end) {
         table::clear_mark(marks, end);
         return decide::at11(c, r, label);
     }

@@ -1,7 +1,6 @@
 //! The link tables as seen from a side: Left is the mirror of Right.
 use decide::touched::LinkWord;
-ghost use mathlib.Core.Path.{_≡_};
-ghost use mathlib.Core.Bool.{cond};
+ghost use mathlib.Core.{Path._≡_, Bool.cond};
 ghost use lib.ListN.{getD, set};
 
 /// A slot's link word.

@@ -8,7 +8,6 @@ use model::Control;
 use model::Entry;
 use model::Transition;
 use route::next;
-use word::Link;
 ghost use Rattle.places.specs.Arm.{Steps, StepsOnMarks, StepsOnNext};
 
 /// Place 12: read the head; an empty one is *no slot*.
@@ -64,12 +63,11 @@ pub fn at16(c: Control, r: Call, nexts: &mut [u64]) -> Transition
 pub fn at17(c: Control, r: Call) -> Transition
     ensures { λ m. ⌜ Steps 17 c r m ⌝ }
 {
-    let head = Link::unpack(r.link);
     if c.head != r.link {
         let m = step::settles(c, r, next::next(17, r.kind, next::FAILED), step::NO_ENTRY);
         return step::fails(m);
     }
-    if head.tag < Link::TAG_MASK {
+    if step::has_room(r.link) {
         let d = step::with_head(c, decide::new17(r));
         let e = Entry {
             slot: r.own,

@@ -1,14 +1,10 @@
 -- Beyond its places and their branches a route leads nowhere.
-use mathlib.Core.Path.{_≡_, refl, ap, sym}
-use mathlib.Core.Bool.{Bool, true, _&&_}
-use mathlib.Core.List.{List, [], _∷_}
+use mathlib.Core.{Path.{_≡_, refl, ap, sym}, Bool.{Bool, true, _&&_}, List.{List, [], _∷_}}
 use Prim.Native.Nat.{ℕ, zero, suc, _<_, _≤_}
 use native.Mathlib.Omega.{arith}
-use lib.Dec.{eqb, leb}
-use lib.ListN.{getD, length, List·getD-eq-default}
+use lib.{Dec.{eqb, leb}, ListN.{getD, length, List·getD-eq-default}}
 use borrow.Author.Tests.{leb-true}
-use Rattle.model.specs.Route.{route, pushRoute, popRoute}
-use Rattle.model.proofs.tests.Truth.{and-true, either}
+use Rattle.model.{specs.Route.{route, pushRoute, popRoute}, proofs.tests.Truth.{and-true, either}}
 
 pub past : (place kind branch : ℕ) → 17 < place → 0 ≡ route place kind branch
 unfolding route pushRoute popRoute

@@ -1,6 +1,5 @@
 -- What the constant table of next places holds: the column next, with a row a place of five branches for a push and five for a pop.
-use mathlib.Core.Bool.{Bool, cond}
-use mathlib.Core.List.{List, [], _∷_}
+use mathlib.Core.{Bool.{Bool, cond}, List.{List, [], _∷_}}
 use Prim.Native.Nat.{ℕ}
 use Rattle.model.specs.Route.{route, failedReading}
 

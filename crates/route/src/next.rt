@@ -1,10 +1,8 @@
 //! The route from place to place: a constant table by place, kind and outcome, the branch that a place takes.
 use word::Anchor;
-ghost use mathlib.Core.Path.{_≡_};
-ghost use mathlib.Core.Bool.{cond};
+ghost use mathlib.Core.{Path._≡_, Bool.cond};
 ghost use lib.Dec.{eqb};
-ghost use Rattle.model.specs.Places.{reading};
-ghost use Rattle.model.specs.Route.{route};
+ghost use Rattle.model.specs.{Places.reading, Route.route};
 ghost use Rattle.route.specs.Constants.{rowOf, branchOf};
 
 // Where a route leads to no place.
@@ -16,7 +14,7 @@ pub const EMPTY: u8 = 22;
 
 pub const POPPED: u8 = 23;
 
-pub const NO_SLOT: u8 = 24;
+pub const NO_FREE_SLOT: u8 = 24;
 
 // The branches of a place. Where it goes one way:
 pub const ONLY_WAY: usize = 0;
@@ -73,7 +71,7 @@ const NEXT: [[[u8; 5]; 2]; 18] = [
     [[10, LEAVE, 0, 0, 0], [10, LEAVE, 0, 0, 0]],
     [[LEAVE, LEAVE, 0, 0, 0], [LEAVE, LEAVE, 0, 0, 0]],
     [[0, 0, 0, 0, 0], [POPPED, 15, 0, 0, 0]],
-    [[NO_SLOT, 13, 0, 0, 0], [0, 0, 0, 0, 0]],
+    [[NO_FREE_SLOT, 13, 0, 0, 0], [0, 0, 0, 0, 0]],
     [[14, 0, 0, 0, 0], [0, 0, 0, 0, 0]],
     [[1, 12, 0, 0, 0], [0, 0, 0, 0, 0]],
     [[0, 0, 0, 0, 0], [16, 0, 0, 0, 0]],

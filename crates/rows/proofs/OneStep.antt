@@ -1,29 +1,16 @@
 -- A step over rows: what its parts say comes to what the step means.
-use mathlib.Core.Path.{_≡_, refl, sym, ap, _∙_}
-use mathlib.Core.Bool.{Bool, true, false, cond}
-use mathlib.Core.List.{List, []}
+use mathlib.Core.{Path.{_≡_, refl, sym, ap, _∙_}, Bool.{Bool, true, false, cond}, List.{List, []}}
 use Prim.Native.Nat.{ℕ, _<_, _≤_}
 use native.Mathlib.Omega.{arith}
-use lib.ListN.{length, getD, set}
-use lib.Seq.{set-getD}
+use lib.{ListN.{length, getD, set}, Seq.set-getD}
 use borrow.Author.Tests.{leb-true, ltb-true}
-use Rattle.model.specs.declared.Control.{Control}
-use Rattle.model.specs.declared.Record.{Record}
-use Rattle.model.specs.declared.Outcome.{Outcome}
-use Rattle.model.specs.declared.Outcome.the-variants.{Refused}
-use Rattle.model.specs.declared.Op.the-variants.{Step}
-use Rattle.model.specs.Tables.{Tables, Queue, isPooled, tablesOf, taskAt, unused}
-use Rattle.model.specs.Ends.{endsCall}
-use Rattle.model.specs.Sound.{rowsFit}
-use Rattle.model.specs.Refusals.{admission, among}
-use Rattle.model.specs.Calls.{Done, back, act, actOn}
-use Rattle.sound.specs.declared.Lengths.{Lengths}
-use Rattle.sound.specs.Lengths.{lengthsOf, lengthsFit, amongMany}
+use Rattle.model.specs.declared.{Control.Control, Record.Record, Outcome.{Outcome, the-variants.Refused}}
+use Rattle.model.specs.{declared.Op.the-variants.Step, Tables.{Tables, Queue, isPooled, tablesOf, taskAt, unused}}
+use Rattle.model.specs.{Ends.endsCall, Sound.rowsFit, Refusals.{admission, among}, Calls.{Done, back, act, actOn}}
+use Rattle.sound.specs.{declared.Lengths.Lengths, Lengths.{lengthsOf, lengthsFit, amongMany}}
 use Rattle.sound.proofs.Measured.{lengths-fit}
-use Rattle.engine.specs.MoveOn.{moveOn}
-use Rattle.engine.proofs.InParts.{turned-away, admitted, task-there}
-use Rattle.rows.specs.Rows.{controlOf, recordsOf, upperOf, uppersOf, queueIn}
-use Rattle.rows.specs.Moved.{RowMoved}
+use Rattle.engine.{specs.StepAdmitted.stepAdmitted, proofs.InParts.{turned-away, admitted, task-there}}
+use Rattle.rows.specs.{Rows.{controlOf, recordsOf, upperOf, uppersOf, queueIn}, Moved.RowMoved}
 use Rattle.rows.proofs.Rows.{length-records, record-read, upper-read, record-put, upper-put}
 
 module _ (ws : List ℕ) (rows : List (List ℕ)) (lefts rights labels marks next : List ℕ) (task : ℕ) where
@@ -95,7 +82,7 @@ module _ (ws : List ℕ) (rows : List (List ℕ)) (lefts rights labels marks nex
       → Steps ws′ (set rows task row′) lefts′ rights′ labels′ marks′ next′ o
   unfolding act actOn
   stepped ws′ row′ lefts′ rights′ labels′ marks′ next′ o f moved =
-      let left = moved .0 ∙ ap (moveOn entry) (record-read rows task) ∙ admitted entry (among queue task) r₀ f in (
+      let left = moved .0 ∙ ap (stepAdmitted entry) (record-read rows task) ∙ admitted entry (among queue task) r₀ f in (
         rw (record-put rows task row′) (ap (back queue task) left),
         upper-put rows task row′ ∙ ap (set (uppersOf rows) task) (moved .1)
             ∙ kept-upper (endsCall o),

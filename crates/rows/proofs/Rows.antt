@@ -1,14 +1,9 @@
 -- Rows and what they are: lengths, a row read, a row written.
-use mathlib.Core.Path.{_≡_, refl, sym, ap, _∙_}
-use mathlib.Core.List.{List, [], _∷_}
+use mathlib.Core.{Path.{_≡_, refl, sym, ap, _∙_}, List.{List, [], _∷_}}
 use Prim.Native.Nat.{ℕ, zero, suc, _+_, _<_, _≤_, min}
-use native.Mathlib.Numerals.{add-one}
-use native.Mathlib.Omega.{arith}
+use native.Mathlib.{Numerals.add-one, Omega.arith}
 use lib.ListN.{length, getD, set}
-use Rattle.model.specs.declared.Call.{Call}
-use Rattle.model.specs.declared.Record.{Record}
-use Rattle.model.specs.Tables.{unused, withOwn}
-use Rattle.model.specs.Lists.{zeroed}
+use Rattle.model.specs.{declared.{Call.Call, Record.Record}, Tables.{unused, withOwn}, Lists.zeroed}
 use Rattle.rows.specs.Rows.{callOf, recordOf, recordsOf, upperOf, uppersOf}
 
 pub length-records : (rows : List (List ℕ)) → length (recordsOf rows) ≡ length rows

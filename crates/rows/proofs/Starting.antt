@@ -1,25 +1,13 @@
 -- A start over rows: what its parts say comes to what the start means.
-use mathlib.Core.Path.{_≡_, refl, sym, ap, subst, _∙_}
-use mathlib.Core.Bool.{Bool, true, false, cond}
-use mathlib.Core.List.{List, [], _∷_}
+use mathlib.Core.{Path.{_≡_, refl, sym, ap, subst, _∙_}, Bool.{Bool, true, false, cond}, List.{List, [], _∷_}}
 use Prim.Native.Nat.{ℕ, zero, suc}
-use lib.Dec.{eqb}
-use lib.ListN.{length, set}
-use lib.Seq.{set-getD}
-use Rattle.model.specs.declared.Control.{Control}
-use Rattle.model.specs.declared.Call.{Call}
-use Rattle.model.specs.declared.Record.{Record}
-use Rattle.model.specs.declared.Op.{Op}
-use Rattle.model.specs.declared.Op.the-variants.{Push, Pop, PushPooled}
-use Rattle.model.specs.declared.Transition.{Transition}
-use Rattle.model.specs.Tables.{Tables, Queue, tablesOf, queueOf, taskAt, unused}
-use Rattle.model.specs.Refusals.{Lent, among, pushRefusal, putRefusal, popRefusal}
-use Rattle.model.specs.Route.{counted}
-use Rattle.model.specs.Ends.{isMoved}
-use Rattle.model.specs.Calls.{Acted, Done, pushStart, putStart, popStart, back, act, actOn}
-use Rattle.model.proofs.tests.Truth.{split, not-both}
-use Rattle.sound.specs.declared.Lengths.{Lengths}
-use Rattle.sound.specs.Lengths.{lengthsOf, amongMany}
+use lib.{Dec.eqb, ListN.{length, set}, Seq.set-getD}
+use Rattle.model.specs.{declared.{Control.Control, Call.Call, Record.Record, Transition.Transition}, Route.counted}
+use Rattle.model.specs.{declared.Op.{Op, the-variants.{Push, Pop, PushPooled}}, Ends.isMoved}
+use Rattle.model.{specs.Tables.{Tables, Queue, tablesOf, queueOf, taskAt, unused}, proofs.tests.Truth.{split, not-both}}
+use Rattle.model.specs.Refusals.{Lent, among, pushRefusal, pushPooledRefusal, popRefusal}
+use Rattle.model.specs.Calls.{Acted, Done, pushStart, pushPooledStart, popStart, back, act, actOn}
+use Rattle.sound.specs.{declared.Lengths.Lengths, Lengths.{lengthsOf, amongMany}}
 use Rattle.table.specs.Lent.{withTables}
 use Rattle.rows.specs.Rows.{controlOf, recordsOf, queueIn, withCallAt}
 use Rattle.rows.proofs.OneStep.{lent-among}
@@ -63,9 +51,9 @@ module _ (ws : List ℕ) (rows : List (List ℕ)) (lefts rights labels marks nex
   push-starts side slot label p r = kept (eqb (pushRefusal entry p (r .call) side slot) 0) r _ _ (refl, λ h. absurd (not-both refl h), refl)
       (refl, λ _. refl, refl)
 
-  pub put-starts : (side label : ℕ) (p : Lent) (r : Record) → Starts r (actOn entry p r (PushPooled side label))
-  unfolding actOn putStart
-  put-starts side label p r = kept (eqb (putRefusal entry p (r .call) side) 0) r _ _ (refl, λ h. absurd (not-both refl h), refl)
+  pub push-pooled-starts : (side label : ℕ) (p : Lent) (r : Record) → Starts r (actOn entry p r (PushPooled side label))
+  unfolding actOn pushPooledStart
+  push-pooled-starts side label p r = kept (eqb (pushPooledRefusal entry p (r .call) side) 0) r _ _ (refl, λ h. absurd (not-both refl h), refl)
       (refl, λ _. refl, refl)
 
   pub pop-starts : (side : ℕ) (p : Lent) (r : Record) → Starts r (actOn entry p r (Pop side))

@@ -1,14 +1,9 @@
 -- Control and records as rows of words, in the order of their fields.
-use mathlib.Core.Bool.{Bool}
-use mathlib.Core.List.{List, [], _∷_}
+use mathlib.Core.{Bool.Bool, List.{List, [], _∷_}}
 use Prim.Native.Nat.{ℕ, _/_, _%_, _^_}
 use lib.ListN.{getD, set}
-use Rattle.model.specs.declared.Control.{Control}
-use Rattle.model.specs.declared.Call.{Call}
-use Rattle.model.specs.declared.Record.{Record}
-use Rattle.model.specs.declared.{Op.Op, Outcome.Outcome}
-use Rattle.model.specs.declared.Op.the-variants.{Push, Pop, PushPooled, Step}
-use Rattle.model.specs.Ends.{isMoved, endsCall}
+use Rattle.model.specs.{declared.{Control.Control, Call.Call, Record.Record, Outcome.Outcome}, Ends.{isMoved, endsCall}}
+use Rattle.model.specs.declared.Op.{Op, the-variants.{Push, Pop, PushPooled, Step}}
 use Rattle.model.specs.Tables.{Queue, queueOf, unused, withCall}
 
 unfoldable pub controlOf : List ℕ → Control

@@ -5,12 +5,9 @@ use calls::start;
 use model::Op;
 use model::Outcome;
 use sound::Lengths;
-ghost use mathlib.Core.Path.{_≡_};
-ghost use mathlib.Core.Bool.{cond};
+ghost use mathlib.Core.{Path._≡_, Bool.cond};
 ghost use lib.ListN.{set};
-ghost use Rattle.model.specs.declared.Op.the-variants.{Push, Pop, PushPooled};
-ghost use Rattle.model.specs.Calls.{Done, act};
-ghost use Rattle.model.specs.Ends.{isMoved};
+ghost use Rattle.model.specs.{declared.Op.the-variants.{Push, Pop, PushPooled}, Calls.{Done, act}, Ends.isMoved};
 ghost use Rattle.rows.specs.Rows.{uppersOf, queueIn, writesRow};
 
 /// Starts a push of a label in a slot.
@@ -57,7 +54,7 @@ pub fn push(
 }
 
 /// Starts a push that names no slot.
-pub fn put(
+pub fn push_pooled(
     control: &[u64; CONTROL_WORDS],
     records: &mut [[u64; RECORD_WORDS]],
     task: usize,
@@ -93,7 +90,7 @@ pub fn put(
         marks: marks.len(),
         next: next.len(),
     };
-    let m = start::put_start(c, r, task, side, label, t);
+    let m = start::push_pooled_start(c, r, task, side, label, t);
     crate::store_start(records, task, m);
     m.outcome
 }
@@ -191,7 +188,7 @@ pub fn operate(
             marks,
             next,
         ),
-        Op::PushPooled { side, label } => put(
+        Op::PushPooled { side, label } => push_pooled(
             control,
             records,
             task,

@@ -5,7 +5,7 @@ use model::Record;
 ghost use mathlib.Core.Path.{_≡_};
 ghost use Rattle.model.specs.Tables.{tablesOf};
 ghost use Rattle.model.specs.Calls as calls;
-ghost use Rattle.engine.specs.MoveOn.{moveOn};
+ghost use Rattle.engine.specs.StepAdmitted.{stepAdmitted};
 
 /// What a step leaves of control and its task's record, and its outcome.
 pub struct Stepped {
@@ -15,7 +15,7 @@ pub struct Stepped {
 }
 
 /// The step of a record once it is admitted.
-pub fn move_on(
+pub fn step_by_value(
     c: Control,
     t: Record,
     lefts: &mut [u64],
@@ -31,7 +31,7 @@ pub fn move_on(
           task = s .task;
           outcome = s .outcome;
         })
-        (moveOn (tablesOf c (now (lefts .entry)) (now (rights .entry)) (now (labels .entry)) (now (marks .entry)) (now (next .entry))) t) ⌝ }
+        (stepAdmitted (tablesOf c (now (lefts .entry)) (now (rights .entry)) (now (labels .entry)) (now (marks .entry)) (now (next .entry))) t) ⌝ }
 {
     let mut words = crate::control_row(c);
     let r = t.call;

@@ -1,10 +1,7 @@
 -- The number of a field is its tag.
-use mathlib.Core.Path.{_≡_, refl, sym, subst}
-use mathlib.Core.Bool.{Bool, true, false}
-use mathlib.Core.List.{List}
+use mathlib.Core.{Path.{_≡_, refl, sym, subst}, Bool.{Bool, true, false}, List.List}
 use Prim.Native.Nat.{ℕ, _+_}
-use lib.Dec.{eqb, leb, ltb}
-use lib.ListN.{drop, getD, length}
+use lib.{Dec.{eqb, leb, ltb}, ListN.{drop, getD, length}}
 use borrow.Author.Tests.{eqb-true}
 use Rattle.model.proofs.tests.Truth.{not-both, split}
 use Rattle.runfile.specs.declared.Field.the-variants.{Malformed}

@@ -1,18 +1,14 @@
 -- A field that is there whole, or malformed, stays the same however many bytes follow: so a file may come in pieces. Bytes that hold less
 -- than a field are fewer than the longest has.
 use Prim.Native.Nat.{ℕ, _+_, _<_, _≤_}
-use mathlib.Core.Path.{_≡_, refl, subst}
-use mathlib.Core.Bool.{Bool, true, false, _&&_, _||_, or-false}
-use mathlib.Core.List.{List, _++_}
+use mathlib.Core.{Path.{_≡_, refl, subst}, Bool.{Bool, true, false, _&&_, _||_, or-false}, List.{List, _++_}}
 use native.Mathlib.Omega.{arith}
-use lib.ListN.{length, getD, drop, length-append, length-drop, List·getD-append}
-use lib.Seq.{drop-append-le}
+use lib.{ListN.{length, getD, drop, length-append, length-drop, List·getD-append}, Seq.drop-append-le}
 use lib.Dec.{ltb, leb, eqb}
 use borrow.Author.Tests.{leb-true, ltb-true, ltb-false, eqb-true, lt-leb, le-ltb}
 use Rattle.model.proofs.tests.Truth.{and-true, or-cases}
 use Rattle.runfile.specs.Field.{twoAt, fourAt, formed, longestField, contentOf, missing, fieldOf}
-use Rattle.runfile.specs.declared.Field.the-variants.{Malformed, Cut, End}
-use Rattle.runfile.specs.declared.Found.{Found}
+use Rattle.runfile.specs.declared.{Field.the-variants.{Malformed, Cut, End}, Found.Found}
 
 clash : {P : Type 0} → _≡_ {A = Bool} false true → P
 clash z = absurd (let y : _≡_ {A = ℕ} 0 1 = cc in omega arith)

@@ -1,13 +1,9 @@
 -- The field at the head of some bytes. (Document 01: The run file and its trace.)
 use Prim.Native.Nat.{ℕ, _+_, _*_}
-use mathlib.Core.{Path._≡_, List.List}
-use mathlib.Core.Bool.{Bool, _&&_, _||_, cond}
-use lib.ListN.{length, getD, drop}
-use lib.Dec.{ltb, leb, eqb}
-use Rattle.model.specs.declared.Op.the-variants.{Push, Pop, PushPooled, Step}
-use Rattle.model.specs.Refusals.{malformed}
-use Rattle.runfile.specs.declared.{Field.Field, Found.Found}
-use Rattle.runfile.specs.declared.Field.the-variants.{Open, Each, Malformed, Cut, End}
+use mathlib.Core.{Path._≡_, List.List, Bool.{Bool, _&&_, _||_, cond}}
+use lib.{ListN.{length, getD, drop}, Dec.{ltb, leb, eqb}}
+use Rattle.model.specs.{declared.Op.the-variants.{Push, Pop, PushPooled, Step}, Refusals.malformed}
+use Rattle.runfile.specs.declared.{Field.{Field, the-variants.{Open, Each, Malformed, Cut, End}}, Found.Found}
 
 -- Numbers, high byte first.
 unfoldable pub twoAt : List ℕ → ℕ → ℕ

@@ -1,38 +1,20 @@
 -- What a call answers: a refusal, the schedule that the search found, or no more.
-use mathlib.Core.Path.{_≡_, refl, sym, ap, _∙_}
-use mathlib.Core.Bool.{Bool, true, false, _&&_, not, cond}
-use mathlib.Core.List.{List, [], _∷_}
+use mathlib.Core.{Path.{_≡_, refl, sym, ap, _∙_}, Bool.{Bool, true, false, _&&_, not, cond}, List.{List, [], _∷_}}
 use Prim.Native.Nat.{ℕ, _≤_}
 use native.Mathlib.Omega.{arith}
-use lib.Dec.{eqb, leb}
-use lib.ListN.{length, getD, set}
-use lib.Seq.{sets}
+use lib.{Dec.{eqb, leb}, ListN.{length, getD, set}, Seq.sets}
 use borrow.Author.Tests.{ne-eqb, leb-true, not-true}
-use Rattle.model.specs.declared.Call.{Call}
-use Rattle.model.specs.declared.Record.{Record}
-use Rattle.model.specs.Tables.{Tables, Queue, isPooled, unused}
-use Rattle.model.specs.Sound.{controlSound, rowsFit}
-use Rattle.model.specs.Walk.{Walk, entries, broken, contents, isBroken, met}
-use Rattle.model.specs.Report.{waiting}
-use Rattle.model.specs.Refusals.{Rule, rule, first, tableRules, recordsFit}
-use Rattle.model.proofs.tests.Truth.{not-both, and-true}
-use Rattle.walk.specs.declared.Tally.{Tally}
-use Rattle.walk.specs.Counted.{counted}
-use Rattle.schedule_model.specs.declared.ScheduleReply.{ScheduleReply}
-use Rattle.schedule_model.specs.Schedules.{allSchedules}
-use Rattle.schedule_model.specs.Next.{Next, given, noMore, memoryLength, remembered, firstAfter, storing, twoAtWork, scheduleRefusal, handing}
-use Rattle.schedule_model.specs.Next.{nextSchedule}
-use Rattle.schedule_model.proofs.Admitted.{memory}
-use Rattle.schedule_model.proofs.AnyStep.{seekOf}
-use Rattle.schedule_model.proofs.OnlyUnsound.{Ready, ready}
-use Rattle.schedule_model.proofs.Searched.{finds}
-use Rattle.schedule_model.proofs.TwoRecords.{two-records}
-use Rattle.schedule_search.specs.declared.Found.{Found}
-use Rattle.schedule_search.specs.Sought.{seeking, Sought, sought}
+use Rattle.model.specs.{declared.{Call.Call, Record.Record}, Tables.{Tables, Queue, isPooled, unused}, Report.waiting}
+use Rattle.model.specs.{Sound.{controlSound, rowsFit}, Walk.{Walk, entries, broken, contents, isBroken, met}}
+use Rattle.model.{specs.Refusals.{Rule, rule, first, tableRules, recordsFit}, proofs.tests.Truth.{not-both, and-true}}
+use Rattle.walk.specs.{declared.Tally.Tally, Counted.counted}
+use Rattle.schedule_model.specs.{declared.ScheduleReply.ScheduleReply, Schedules.allSchedules}
+use Rattle.schedule_model.specs.Next.{Next, given, noMore, memoryLength, remembered, firstAfter, storing, twoAtWork}
+use Rattle.schedule_model.{specs.Next.{scheduleRefusal, handing, nextSchedule}, proofs.TwoRecords.two-records}
+use Rattle.schedule_model.proofs.{Admitted.memory, AnyStep.seekOf, OnlyUnsound.{Ready, ready}, Searched.finds}
+use Rattle.schedule_search.specs.{declared.Found.Found, Sought.{seeking, Sought, sought}}
+use Rattle.schedule_search.proofs.{Seeking.handed, Stepping.sets-above, Unasked.unasked}
 use Rattle.schedule.specs.Answered.{refusalAfter, Begins, Answered, answered}
-use Rattle.schedule_search.proofs.Seeking.{handed}
-use Rattle.schedule_search.proofs.Stepping.{sets-above}
-use Rattle.schedule_search.proofs.Unasked.{unasked}
 
 abbrev pub told : ScheduleReply → List ℕ → Tables → Answered
 told r ws q = record { handed = record { reply = r; memory = ws }; tables = q }

@@ -1,15 +1,9 @@
 -- The call by value: its refusals after those of the tables, and what it leaves.
-use mathlib.Core.Path.{_≡_}
-use mathlib.Core.Bool.{Bool, _&&_, cond}
-use mathlib.Core.List.{List}
+use mathlib.Core.{Path._≡_, Bool.{Bool, _&&_, cond}, List.List}
 use Prim.Native.Nat.{ℕ}
-use lib.Dec.{leb}
-use lib.ListN.{length, getD}
-use Rattle.model.specs.declared.Call.{Call}
-use Rattle.model.specs.declared.Record.{Record}
-use Rattle.model.specs.Tables.{Tables, unused}
-use Rattle.walk.specs.declared.Tally.{Tally}
-use Rattle.walk.specs.declared.Tally.the-variants.{Broken, Labels}
+use lib.{Dec.leb, ListN.{length, getD}}
+use Rattle.model.specs.{declared.{Call.Call, Record.Record}, Tables.{Tables, unused}}
+use Rattle.walk.specs.declared.Tally.{Tally, the-variants.{Broken, Labels}}
 use Rattle.schedule_model.specs.Next.{Handed, nextSchedule}
 
 -- By the walk, after the rules of the tables (`tableRules`). Two: two tasks, both busy.

@@ -1,14 +1,10 @@
 -- What holds of a queue and memory with which no call is refused.
-use mathlib.Core.Path.{_≡_, refl}
-use mathlib.Core.Bool.{true, false}
-use mathlib.Core.List.{List}
+use mathlib.Core.{Path.{_≡_, refl}, Bool.{true, false}, List.List}
 use Prim.Native.Nat.{ℕ, _≤_}
-use lib.Dec.{leb, eqb}
-use lib.ListN.{length}
+use lib.{Dec.{leb, eqb}, ListN.length}
 use borrow.Author.Tests.{leb-true, eqb-true, not-false}
 use Rattle.model.specs.{Tables.Queue, Sound.controlSound, Refusals.Rule, Lists.All}
-use Rattle.model.proofs.tests.{Rules.cleared, Truth.and-true}
-use Rattle.model.proofs.laws.Sizes.{fits}
+use Rattle.model.proofs.{tests.{Rules.cleared, Truth.and-true}, laws.Sizes.fits}
 use Rattle.schedule_model.specs.Schedules.{atWork, bothAnswered}
 use Rattle.schedule_model.specs.Next.{twoAtWork, scheduleRules, scheduleRefusal}
 

@@ -1,19 +1,15 @@
 -- The schedules of a queue are those that are allowed: one step is taken off a schedule after the other.
-use mathlib.Core.Path.{_≡_, refl, sym, ap, subst, _∙_}
-use mathlib.Core.Bool.{Bool, true, false, _||_, cond}
-use mathlib.Core.List.{List, [], _∷_, _++_, List·Memᴰ, List·Memᴰ·head, List·Memᴰ·append-cases, List·Memᴰ·eq-of-singleton}
-use mathlib.Core.List.{Memᴰ·append-left, Memᴰ·append-right, Memᴰ·map, Memᴰ·of-map, List·Memᴰ·not-nil}
-use mathlib.Core.Logic.{⊎-elim}
+use mathlib.Core.{Path.{_≡_, refl, sym, ap, subst, _∙_}, Bool.{Bool, true, false, _||_, cond}, Logic.⊎-elim}
+use mathlib.Core.List.{List, [], _∷_, _++_, List·Memᴰ, List·Memᴰ·head, List·Memᴰ·append-cases, Memᴰ·append-left}
+use mathlib.Core.List.{List·Memᴰ·eq-of-singleton, Memᴰ·append-right, Memᴰ·map, Memᴰ·of-map, List·Memᴰ·not-nil}
 use Prim.Native.Nat.{ℕ, zero, suc, _<_}
 use native.Mathlib.Omega.{arith}
-use lib.Dec.{eqb·suc-suc, eqb·zero-suc}
-use lib.ListN.{length}
-use Rattle.model.specs.declared.Outcome.{Outcome}
-use Rattle.model.specs.declared.Outcome.the-variants.{Refused, Moved}
-use Rattle.model.specs.declared.Op.the-variants.{Step}
-use Rattle.model.specs.{Tables.Queue, Calls.act, History.final}
-use Rattle.schedule_model.specs.Schedules.{Schedule, ends, begun, atWork, bothAnswered, onwards, through, schedules}
-use Rattle.schedule_model.specs.Allowed.{Allowed, OnlyAllowed, EveryAllowed, after, isRefused, lastRefused, hasEnded, endingOf}
+use lib.{Dec.{eqb·suc-suc, eqb·zero-suc}, ListN.length}
+use Rattle.model.specs.{declared.{Outcome.{Outcome, the-variants.{Refused, Moved}}, Op.the-variants.Step}, Tables.Queue}
+use Rattle.model.specs.{Calls.act, History.final}
+use Rattle.schedule_model.specs.Schedules.{Schedule, ends, begun, atWork, bothAnswered, onwards, through}
+use Rattle.schedule_model.specs.{Schedules.schedules, Allowed.lastRefused}
+use Rattle.schedule_model.specs.Allowed.{hasEnded, endingOf, Allowed, OnlyAllowed, EveryAllowed, after, isRefused}
 
 abbrev clash : {A : Type 0} → _≡_ {A = ℕ} 0 1 → A
 clash e = absurd (omega arith)

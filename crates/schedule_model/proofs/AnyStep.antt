@@ -1,14 +1,9 @@
 -- A search by another step finds the same, where that step does the same on every queue that is sound and long enough.
-use mathlib.Core.Path.{_≡_, refl, ap, _∙_}
-use mathlib.Core.Bool.{Bool}
-use mathlib.Core.List.{List}
+use mathlib.Core.{Path.{_≡_, refl, ap, _∙_}, Bool.Bool, List.List}
 use Prim.Native.Nat.{ℕ, zero, suc, _<_}
 use native.Mathlib.Omega.{arith}
-use Rattle.model.specs.declared.Op.the-variants.{Step}
-use Rattle.model.specs.Tables.{Queue}
-use Rattle.model.specs.Calls.{Done, act}
-use Rattle.schedule_model.specs.Next.{Next}
-use Rattle.schedule_model.specs.Search.{frees, level, seekBy}
+use Rattle.model.specs.{declared.Op.the-variants.Step, Tables.Queue, Calls.{Done, act}}
+use Rattle.schedule_model.specs.{Next.Next, Search.{frees, level, seekBy}}
 use Rattle.schedule_model.proofs.OnlyUnsound.{Ready, stays}
 
 -- The search by the steps of the list, which ask for admission each time.

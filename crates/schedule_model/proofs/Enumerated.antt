@@ -1,23 +1,17 @@
 -- Beginning with zeros, repeated calls hand out each schedule once, and then no more.
-use mathlib.Core.Path.{_≡_, refl, sym, ap, subst, _∙_}
-use mathlib.Core.Bool.{Bool, true, false, cond}
+use mathlib.Core.{Path.{_≡_, refl, sym, ap, subst, _∙_}, Bool.{Bool, true, false, cond}}
 use mathlib.Core.List.{List, [], _∷_, _++_, map}
 use Prim.Native.Nat.{ℕ, zero, suc, _+_, _<_, _≤_}
-use native.Mathlib.Nat.{zero-add, suc-add}
-use native.Mathlib.Omega.{arith}
-use lib.ListN.{length, getD, drop, replicate}
-use lib.Seq.{sets-eq, length-sets, take-append-seam}
+use native.Mathlib.{Nat.{zero-add, suc-add}, Omega.arith}
+use lib.{ListN.{length, getD, drop, replicate}, Seq.{sets-eq, length-sets, take-append-seam}}
 use borrow.Author.Tests.{le-leb, ne-eqb}
-use Rattle.model.specs.declared.Outcome.{Outcome}
-use Rattle.model.specs.declared.Outcome.the-variants.{Refused, Moved}
-use Rattle.model.specs.declared.Op.the-variants.{Step}
-use Rattle.model.specs.{Tables.Queue, Calls.act, Lists.All}
-use Rattle.model.proofs.lists.All.{all-map, all-append}
-use Rattle.schedule_model.specs.Schedules.{Schedule, ends, begun, atWork, bothAnswered, onwards, through, schedules, allSchedules}
-use Rattle.schedule_model.specs.Next.{Next, given, noMore, precedes, firstAfter, remembered, storing, scheduleRefusal, handing, nextSchedule}
+use Rattle.model.specs.{declared.{Outcome.{Outcome, the-variants.{Refused, Moved}}, Op.the-variants.Step}, Tables.Queue}
+use Rattle.model.{specs.{Calls.act, Lists.All}, proofs.lists.All.{all-map, all-append}}
+use Rattle.schedule_model.specs.Schedules.{Schedule, ends, begun, atWork, bothAnswered, onwards, through}
+use Rattle.schedule_model.specs.{Schedules.{schedules, allSchedules}, Next.{scheduleRefusal, nextSchedule}}
+use Rattle.schedule_model.specs.Next.{Next, given, noMore, precedes, firstAfter, remembered, storing, handing}
 use Rattle.schedule_model.specs.Claims.{told, calls, Pairwise, Enumerates}
-use Rattle.schedule_model.proofs.Order.{never-self, precedes-trans, not-back}
-use Rattle.schedule_model.proofs.Admitted.{at-work, memory}
+use Rattle.schedule_model.proofs.{Order.{never-self, precedes-trans, not-back}, Admitted.{at-work, memory}}
 use Rattle.schedule_model.proofs.Pairs.{Starts, through-starts, in-order}
 
 -- Those after g.

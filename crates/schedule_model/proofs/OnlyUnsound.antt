@@ -1,28 +1,17 @@
 -- Of two busy tasks a step is refused by 34 only.
-use mathlib.Core.Path.{_≡_, refl, sym, ap, _∙_}
-use mathlib.Core.Bool.{Bool, true, false, not, cond}
-use mathlib.Core.List.{List, [], _∷_}
+use mathlib.Core.{Path.{_≡_, refl, sym, ap, _∙_}, Bool.{Bool, true, false, not, cond}, List.{List, [], _∷_}}
 use Prim.Native.Nat.{ℕ, _<_}
 use native.Mathlib.Omega.{arith}
 use lib.Dec.{eqb}
 use borrow.Author.Tests.{lt-ltb, not-true, not-false, eqb-true}
-use Rattle.model.specs.declared.Call.{Call}
-use Rattle.model.specs.declared.Record.{Record}
-use Rattle.model.specs.declared.Outcome.the-variants.{Refused}
-use Rattle.model.specs.declared.Op.the-variants.{Step}
-use Rattle.model.specs.Tables.{Tables, Queue, isPooled, taskAt, recordAt}
+use Rattle.model.specs.declared.{Call.Call, Record.Record, Outcome.the-variants.Refused, Op.the-variants.Step}
+use Rattle.model.specs.{Tables.{Tables, Queue, isPooled, taskAt, recordAt}, Places.{Move, move, apply}, History.final}
 use Rattle.model.specs.Sound.{controlTests, controlSound, recordSound}
-use Rattle.model.specs.Places.{Touch, nothing, setAnchor, setLink, clearMark, takeSlot, setNext, setHead, wordFound, Move, move, apply}
+use Rattle.model.specs.Places.{Touch, nothing, setAnchor, setLink, clearMark, takeSlot, setNext, setHead, wordFound}
 use Rattle.model.specs.Refusals.{Lent, among, leavesSound, stepTests, stepSound, stepRules, stepRefusal}
 use Rattle.model.specs.Calls.{Acted, decide, finish, step, actOn, act}
-use Rattle.model.specs.History.{final}
-use Rattle.model.proofs.laws.Sizes.{fits, act-fits, act-tasks}
-use Rattle.model.proofs.tests.Truth.{by-test}
-use Rattle.model.proofs.tests.Rules.{tests, passes, cleared}
-use Rattle.schedule_model.specs.Schedules.{atWork}
-use Rattle.schedule_model.specs.Allowed.{after}
-use Rattle.schedule_model.specs.Next.{scheduleRefusal}
-use Rattle.schedule_model.specs.Claims.{OnlyUnsound}
+use Rattle.model.proofs.{laws.Sizes.{fits, act-fits, act-tasks}, tests.{Truth.by-test, Rules.{tests, passes, cleared}}}
+use Rattle.schedule_model.specs.{Schedules.atWork, Allowed.after, Next.scheduleRefusal, Claims.OnlyUnsound}
 use Rattle.schedule_model.proofs.Admitted.{control, enough, tasks}
 
 -- A change that leaves Anchor sound leaves control sound.

@@ -1,7 +1,5 @@
 -- Dictionary order is strict.
-use mathlib.Core.Path.{_≡_, refl, sym, _∙_}
-use mathlib.Core.Logic.{_⊎_, inl, inr}
-use mathlib.Core.Bool.{Bool, true, false, _&&_, _||_}
+use mathlib.Core.{Path.{_≡_, refl, sym, _∙_}, Logic.{_⊎_, inl, inr}, Bool.{Bool, true, false, _&&_, _||_}}
 use mathlib.Core.List.{List, [], _∷_}
 use Prim.Native.Nat.{ℕ, _<_}
 use native.Mathlib.Omega.{arith}

@@ -1,18 +1,12 @@
 -- Any two schedules of a queue part at some step, where one goes on with task 0 and the other with task 1.
-use mathlib.Core.Path.{_≡_, refl}
-use mathlib.Core.Bool.{Bool, true, false, cond}
-use mathlib.Core.List.{List, [], _∷_, _++_, map}
+use mathlib.Core.{Path.{_≡_, refl}, Bool.{Bool, true, false, cond}, List.{List, [], _∷_, _++_, map}}
 use Prim.Native.Nat.{ℕ, zero, suc}
 use native.Mathlib.Omega.{arith}
 use borrow.Author.Tests.{le-ltb, eq-eqb}
-use Rattle.model.specs.declared.Outcome.{Outcome}
-use Rattle.model.specs.declared.Outcome.the-variants.{Refused, Moved}
-use Rattle.model.specs.declared.Op.the-variants.{Step}
-use Rattle.model.specs.{Tables.Queue, Calls.act, Lists.All}
-use Rattle.model.proofs.lists.All.{all-map, all-append}
-use Rattle.schedule_model.specs.Schedules.{Schedule, ends, begun, atWork, bothAnswered, onwards, through, schedules}
-use Rattle.schedule_model.specs.Next.{precedes}
-use Rattle.schedule_model.specs.Claims.{Pairwise, InOrder, begins, Apart}
+use Rattle.model.specs.{declared.{Outcome.{Outcome, the-variants.{Refused, Moved}}, Op.the-variants.Step}, Tables.Queue}
+use Rattle.model.{specs.{Calls.act, Lists.All}, proofs.lists.All.{all-map, all-append}}
+use Rattle.schedule_model.specs.Schedules.{Schedule, ends, begun, atWork, bothAnswered, onwards, through}
+use Rattle.schedule_model.specs.{Schedules.schedules, Next.precedes, Claims.{Pairwise, InOrder, begins, Apart}}
 
 -- The schedule begins with task t.
 abbrev pub Starts : ℕ → Schedule → Type 0

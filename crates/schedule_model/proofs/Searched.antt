@@ -1,21 +1,15 @@
 -- The search finds the first schedule after the remembered list in dictionary order.
-use mathlib.Core.Path.{_≡_, refl, sym, ap, _∙_}
-use mathlib.Core.Bool.{Bool, true, false, _||_, _&&_, not, cond}
+use mathlib.Core.{Path.{_≡_, refl, sym, ap, _∙_}, Bool.{Bool, true, false, _||_, _&&_, not, cond}}
 use mathlib.Core.List.{List, [], _∷_, _++_, map}
 use Prim.Native.Nat.{ℕ, zero, suc, _+_, _-_, _<_, _≤_}
 use native.Mathlib.Omega.{arith}
-use lib.Dec.{ltb, eqb, leb}
-use lib.Arith.{lt-of-le-ne}
-use lib.ListN.{length, getD, take, drop, length-drop}
+use lib.{Dec.{ltb, eqb, leb}, Arith.lt-of-le-ne, ListN.{length, getD, take, drop, length-drop}}
 use lib.Seq.{drop-cons, getD-take, getD-drop, length-take-le}
 use borrow.Author.Tests.{leb-true, ltb-true, ltb-false, eqb-true, eqb-false, lt-ltb, le-ltb, eq-eqb, ne-eqb}
-use Rattle.model.specs.declared.Outcome.{Outcome}
-use Rattle.model.specs.declared.Outcome.the-variants.{Refused, Moved}
-use Rattle.model.specs.declared.Op.the-variants.{Step}
-use Rattle.model.specs.Tables.{Queue}
-use Rattle.model.specs.Calls.{act}
-use Rattle.model.proofs.tests.Truth.{by-test}
-use Rattle.schedule_model.specs.Schedules.{Schedule, ends, begun, atWork, bothAnswered, onwards, through, schedules, allSchedules}
+use Rattle.model.specs.{declared.{Outcome.{Outcome, the-variants.{Refused, Moved}}, Op.the-variants.Step}, Tables.Queue}
+use Rattle.model.{specs.Calls.act, proofs.tests.Truth.by-test}
+use Rattle.schedule_model.specs.Schedules.{Schedule, ends, begun, atWork, bothAnswered, onwards, through}
+use Rattle.schedule_model.specs.Schedules.{schedules, allSchedules}
 use Rattle.schedule_model.specs.Next.{Next, given, noMore, precedes, firstAfter, memoryLength, remembered}
 use Rattle.schedule_model.specs.Search.{ended, orElse, prefixed, stepped, least, frees, tried, seekBy}
 use Rattle.schedule_model.proofs.AnyStep.{seekOf}

@@ -1,17 +1,11 @@
 -- With two tasks only the first two records count.
-use mathlib.Core.Path.{_≡_, refl, sym, ap, _∙_}
-use mathlib.Core.Bool.{Bool, true}
-use mathlib.Core.List.{List, [], _∷_}
+use mathlib.Core.{Path.{_≡_, refl, sym, ap, _∙_}, Bool.{Bool, true}, List.{List, [], _∷_}}
 use Prim.Native.Nat.{ℕ, zero, suc}
 use native.Mathlib.Omega.{arith}
 use lib.{Dec.ltb, ListN.length}
 use borrow.Author.Tests.{le-leb}
-use Rattle.model.specs.declared.Record.{Record}
-use Rattle.model.specs.declared.Op.the-variants.{Step}
-use Rattle.model.specs.Tables.{Tables, Queue}
-use Rattle.model.specs.Refusals.{Lent, among}
-use Rattle.model.specs.Calls.{Acted, step, actOn, Done, back, act}
-use Rattle.model.proofs.laws.Sizes.{act-tasks}
+use Rattle.model.specs.{declared.{Record.Record, Op.the-variants.Step}, Tables.{Tables, Queue}, Refusals.{Lent, among}}
+use Rattle.model.{specs.Calls.{Acted, step, actOn, Done, back, act}, proofs.laws.Sizes.act-tasks}
 use Rattle.schedule_model.specs.Schedules.{schedules}
 
 abbrev wide : Tables → Record → Record → List Record → Queue

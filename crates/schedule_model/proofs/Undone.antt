@@ -1,18 +1,11 @@
 -- With Anchor, the head and the words of the row that its place names put back, control and tables are as before a step.
-use mathlib.Core.Path.{_≡_}
-use mathlib.Core.Bool.{Bool, true, false, cond}
-use mathlib.Core.List.{List}
+use mathlib.Core.{Path._≡_, Bool.{Bool, true, false, cond}, List.List}
 use Prim.Native.Nat.{ℕ, _/_}
-use lib.Dec.{eqb}
-use lib.ListN.{getD, set}
-use lib.Seq.{set-getD, set-set}
-use Rattle.model.specs.declared.Control.{Control}
-use Rattle.model.specs.declared.Call.{Call}
-use Rattle.model.specs.Tables.{Tables, isPooled, tablesOf}
-use Rattle.model.specs.Places.{Touch, nothing, setAnchor, setLink, clearMark, takeSlot, setNext, setHead, Move, row, wordFound, apply}
-use Rattle.model.specs.Places.{at1, at2, at3, at4, at5, at6, at7, at9, at10, at11, at12, at13, at14, at15, at16, at17, move}
-use Rattle.model.proofs.tests.Truth.{either}
-use Rattle.model.specs.Kinds.{isPush}
+use lib.{Dec.eqb, ListN.{getD, set}, Seq.{set-getD, set-set}}
+use Rattle.model.specs.{declared.{Control.Control, Call.Call}, Tables.{Tables, isPooled, tablesOf}, Kinds.isPush}
+use Rattle.model.specs.Places.{Touch, nothing, setAnchor, setLink, clearMark, takeSlot, setNext, setHead, Move, row}
+use Rattle.model.specs.Places.{wordFound, apply, at1, at2, at3, at4, at5, at6, at7, at9, at10, at11, at12, at13, at14}
+use Rattle.model.{specs.Places.{at15, at16, at17, move}, proofs.tests.Truth.either}
 use Rattle.schedule_model.specs.Undo.{saved, putBack, Undoes}
 
 -- A touch of slot x's row, or of none.

@@ -1,25 +1,17 @@
 -- From an accepted opening on no call is refused 34, and no schedule is marked refused.
-use mathlib.Core.Path.{_≡_, refl, ap, subst}
-use mathlib.Core.Bool.{true, not}
-use mathlib.Core.List.{List, [], _∷_, _++_, map}
-use mathlib.Core.Logic.{_≢_}
+use mathlib.Core.{Path.{_≡_, refl, ap, subst}, Bool.{true, not}, List.{List, [], _∷_, _++_, map}, Logic._≢_}
 use Prim.Native.Nat.{ℕ, zero, suc, _<_}
 use native.Mathlib.Omega.{arith}
 use lib.Dec.{eqb}
 use borrow.Author.Tests.{eqb-true}
-use Rattle.model.specs.declared.{Entry.Entry, Outcome.Outcome}
-use Rattle.model.specs.declared.Outcome.the-variants.{Refused, Moved}
-use Rattle.model.specs.declared.Op.the-variants.{Step}
-use Rattle.model.specs.{Tables.Queue, Walk.isBroken, Standing.Standing, Lists.All}
-use Rattle.model.specs.Calls.{act, openAs}
+use Rattle.model.specs.declared.{Entry.Entry, Outcome.{Outcome, the-variants.{Refused, Moved}}, Op.the-variants.Step}
+use Rattle.model.specs.{Tables.Queue, Walk.isBroken, Standing.Standing, Lists.All, Calls.{act, openAs}}
 use Rattle.model.specs.History.{Event, NeverUnsound, Request, final, run}
-use Rattle.model.proofs.tests.Rules.{_and_, never}
-use Rattle.model.proofs.tests.Truth.{by-test}
-use Rattle.model.proofs.{Never34.never-34, Standing.standing}
-use Rattle.schedule_model.specs.Schedules.{Schedule, allSchedules, atWork, begun, bothAnswered, ends, onwards, schedules, through}
-use Rattle.schedule_model.specs.Next.{Handed, Next, firstAfter, given, handing, nextSchedule, noMore, precedes, remembered}
-use Rattle.schedule_model.specs.Next.{scheduleRefusal, scheduleRules}
-use Rattle.schedule_model.specs.Allowed.{tries}
+use Rattle.model.proofs.{tests.{Rules.{_and_, never}, Truth.by-test}, Never34.never-34, Standing.standing}
+use Rattle.schedule_model.specs.Schedules.{Schedule, allSchedules, atWork, begun, bothAnswered, ends, onwards}
+use Rattle.schedule_model.specs.{Schedules.{schedules, through}, Allowed.tries}
+use Rattle.schedule_model.specs.Next.{Handed, Next, firstAfter, given, handing, nextSchedule, noMore, precedes}
+use Rattle.schedule_model.specs.Next.{remembered, scheduleRefusal, scheduleRules}
 use Rattle.schedule_model.specs.Claims.{NeverRefused, StandingSchedules, StandingUnrefused, Unrefused}
 use Rattle.schedule_model.proofs.OnlyUnsound.{only-unsound}
 

@@ -1,19 +1,13 @@
 -- Cases worked by computing: the refusals in their order, and a few schedules.
-use mathlib.Core.Path.{_≡_, refl}
-use mathlib.Core.Bool.{false, cond}
-use mathlib.Core.List.{List, [], _∷_}
+use mathlib.Core.{Path.{_≡_, refl}, Bool.{false, cond}, List.{List, [], _∷_}}
 use Prim.Native.Nat.{ℕ}
 use lib.{Dec.eqb, ListN.replicate}
 use Rattle.word.specs.Anchor.{packAnchor}
-use Rattle.model.specs.declared.Record.{Record}
-use Rattle.model.specs.Tables.{Queue, queueOf, unused, withCall, started, openedControl, withWords}
-use Rattle.model.specs.Sound.{anchorSound, linkSound, controlSound, recordSound, rowsFit}
-use Rattle.model.specs.Places.{sideOf, row, linkSide, reading, at1, at2, move}
-use Rattle.model.specs.Route.{pushRoute, popRoute, route, onward, answer, goes, counted}
-use Rattle.model.specs.Refusals.{stepSound, stepRefusal}
+use Rattle.model.specs.{declared.Record.Record, Sound.{anchorSound, linkSound, controlSound, recordSound, rowsFit}}
+use Rattle.model.specs.{Tables.{Queue, queueOf, unused, withCall, started, openedControl, withWords}, Report.waiting}
+use Rattle.model.specs.{Places.{sideOf, row, linkSide, reading, at1, at2, move}, Refusals.{stepSound, stepRefusal}}
+use Rattle.model.specs.{Route.{pushRoute, popRoute, route, onward, answer, goes, counted}, Walk.{along, contents}}
 use Rattle.model.specs.Calls.{finish, step, actOn, act}
-use Rattle.model.specs.Walk.{along, contents}
-use Rattle.model.specs.Report.{waiting}
 use Rattle.schedule_model.specs.Schedules.{schedules}
 use Rattle.schedule_model.specs.Next.{Handed, noMore, given, handing, nextSchedule, scheduleRefusal, storing}
 

@@ -1,15 +1,11 @@
 -- Which schedules the tables allow, of any list of tasks. (Document 02, #107.)
-use mathlib.Core.Path.{_≡_}
-use mathlib.Core.Bool.{Bool, true, false, _||_, cond}
-use mathlib.Core.List.{List, [], _∷_, _++_, List·Memᴰ}
+use mathlib.Core.{Path._≡_, Bool.{Bool, true, false, _||_, cond}, List.{List, [], _∷_, _++_, List·Memᴰ}}
 use Prim.Native.Nat.{ℕ, _<_}
 use lib.{Dec.eqb, ListN.length}
-use Rattle.model.specs.declared.Outcome.{Outcome}
-use Rattle.model.specs.declared.Outcome.the-variants.{Refused, Moved}
-use Rattle.model.specs.declared.Op.the-variants.{Step}
-use Rattle.model.specs.{Tables.Queue, Calls.act}
-use Rattle.model.specs.History.{Request, final}
-use Rattle.schedule_model.specs.Schedules.{Schedule, answeredBoth, wasCut, wasRefused, atWork, bothAnswered, allSchedules}
+use Rattle.model.specs.{declared.{Outcome.{Outcome, the-variants.{Refused, Moved}}, Op.the-variants.Step}, Tables.Queue}
+use Rattle.model.specs.{Calls.act, History.{Request, final}}
+use Rattle.schedule_model.specs.Schedules.{Schedule, answeredBoth, wasCut, wasRefused, atWork, bothAnswered}
+use Rattle.schedule_model.specs.Schedules.{allSchedules}
 
 -- A step of each task of a list, and the queue after them.
 abbrev pub tries : List ℕ → List Request

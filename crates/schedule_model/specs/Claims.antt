@@ -1,15 +1,9 @@
 -- What is promised of the schedules and of repeated calls. (Document 02, #107.)
-use mathlib.Core.{Path._≡_, Logic._≢_}
-use mathlib.Core.Bool.{Bool, true, false, _&&_, cond}
-use mathlib.Core.List.{List, [], _∷_, _++_, map}
+use mathlib.Core.{Path._≡_, Logic._≢_, Bool.{Bool, true, false, _&&_, cond}, List.{List, [], _∷_, _++_, map}}
 use Prim.Native.Nat.{ℕ, zero, suc, _+_, _<_}
-use lib.Dec.{eqb}
-use lib.ListN.{length, getD, take, drop, replicate}
-use Rattle.model.specs.declared.Entry.{Entry}
-use Rattle.model.specs.declared.Outcome.the-variants.{Refused}
-use Rattle.model.specs.declared.Op.the-variants.{Step}
-use Rattle.model.specs.{Tables.Queue, Calls.act, Standing.Standing, Lists.All}
-use Rattle.model.specs.History.{AfterOpening, NeverUnsound, Request, final}
+use lib.{Dec.eqb, ListN.{length, getD, take, drop, replicate}}
+use Rattle.model.specs.{declared.{Entry.Entry, Outcome.the-variants.Refused, Op.the-variants.Step}, Tables.Queue}
+use Rattle.model.specs.{Calls.act, Standing.Standing, Lists.All, History.{AfterOpening, NeverUnsound, Request, final}}
 use Rattle.schedule_model.specs.Schedules.{Schedule, saidNoMore, wasRefused, atWork, schedules, allSchedules}
 use Rattle.schedule_model.specs.Allowed.{after}
 use Rattle.schedule_model.specs.Next.{Next, given, noMore, precedes, Handed, scheduleRefusal, nextSchedule}

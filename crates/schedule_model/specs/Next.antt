@@ -1,12 +1,8 @@
 -- One call: the schedule after the one that the lent memory holds. (Document 02, #107.)
-use mathlib.Core.Bool.{Bool, true, false, _&&_, _||_, not, cond}
-use mathlib.Core.List.{List, [], _∷_, _++_}
+use mathlib.Core.{Bool.{Bool, true, false, _&&_, _||_, not, cond}, List.{List, [], _∷_, _++_}}
 use Prim.Native.Nat.{ℕ}
-use lib.Dec.{ltb, leb, eqb}
-use lib.ListN.{length, getD, take, drop}
-use lib.Seq.{sets}
-use Rattle.model.specs.{Tables.Queue, Report.waiting}
-use Rattle.model.specs.Walk.{contents, isBroken}
+use lib.{Dec.{ltb, leb, eqb}, ListN.{length, getD, take, drop}, Seq.sets}
+use Rattle.model.specs.{Tables.Queue, Report.waiting, Walk.{contents, isBroken}}
 use Rattle.model.specs.Refusals.{Rule, rule, first, fits, recordsFit, tableRules}
 use Rattle.schedule_model.specs.declared.ScheduleReply.{ScheduleReply}
 use Rattle.schedule_model.specs.Schedules.{Schedule, saidNoMore, atWork, allSchedules}

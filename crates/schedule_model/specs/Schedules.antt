@@ -1,12 +1,8 @@
 -- Every order for two tasks. (Document 02, #107.)
-use mathlib.Core.Bool.{Bool, _||_, not, cond}
-use mathlib.Core.List.{List, [], _∷_, _++_, map}
+use mathlib.Core.{Bool.{Bool, _||_, not, cond}, List.{List, [], _∷_, _++_, map}}
 use Prim.Native.Nat.{ℕ, zero, suc}
-use Rattle.model.specs.declared.Outcome.{Outcome}
-use Rattle.model.specs.declared.Outcome.the-variants.{Refused, Moved}
-use Rattle.model.specs.declared.Op.the-variants.{Step}
-use Rattle.model.specs.Tables.{Queue, recordAt}
-use Rattle.model.specs.{Refusals.isBusy, Calls.act}
+use Rattle.model.specs.{declared.{Outcome.{Outcome, the-variants.{Refused, Moved}}, Op.the-variants.Step}, Calls.act}
+use Rattle.model.specs.{Tables.{Queue, recordAt}, Refusals.isBusy}
 
 -- How a schedule ends, by the number that the caller reads: both calls answered, cut, its last step refused. There is none: no more.
 abbrev pub answeredBoth : ℕ

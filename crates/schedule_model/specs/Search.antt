@@ -1,15 +1,10 @@
 -- The search for the next schedule, as the code makes it: down the tree of steps, task 0 first, where the remembered list lets it.
-use mathlib.Core.Bool.{Bool, _&&_, _||_, not, cond}
-use mathlib.Core.List.{List}
+use mathlib.Core.{Bool.{Bool, _&&_, _||_, not, cond}, List.List}
 use Prim.Native.Nat.{ℕ, zero, suc, _-_}
-use lib.Dec.{ltb, eqb}
-use lib.ListN.{getD}
-use Rattle.model.specs.declared.Outcome.{Outcome}
-use Rattle.model.specs.declared.Outcome.the-variants.{Refused, Moved}
-use Rattle.model.specs.Tables.{Queue}
-use Rattle.model.specs.Calls.{Done}
-use Rattle.schedule_model.specs.Schedules.{Schedule, answeredBoth, wasCut, wasRefused, ends, begun, atWork, bothAnswered}
-use Rattle.schedule_model.specs.Next.{Next, given, noMore}
+use lib.{Dec.{ltb, eqb}, ListN.getD}
+use Rattle.model.specs.{declared.Outcome.{Outcome, the-variants.{Refused, Moved}}, Tables.Queue, Calls.Done}
+use Rattle.schedule_model.specs.Schedules.{Schedule, answeredBoth, wasCut, wasRefused, ends, begun, atWork}
+use Rattle.schedule_model.specs.{Schedules.bothAnswered, Next.{Next, given, noMore}}
 
 -- Free: any schedule from here on will do; else the steps so far are those of the list, and the schedule must come after it.
 abbrev pub ended : Bool → Schedule → Next

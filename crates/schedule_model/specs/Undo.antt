@@ -2,9 +2,7 @@
 use mathlib.Core.Path.{_≡_}
 use Prim.Native.Nat.{ℕ, _/_}
 use lib.ListN.{getD, set}
-use Rattle.model.specs.declared.Call.{Call}
-use Rattle.model.specs.Tables.{Tables, tablesOf, withWords}
-use Rattle.model.specs.Places.{row, wordFound, move, apply}
+use Rattle.model.specs.{declared.Call.Call, Tables.{Tables, tablesOf, withWords}, Places.{row, wordFound, move, apply}}
 use Rattle.schedule_model.specs.declared.Saved.{Saved}
 
 -- Anchor, the head, and slot x's words.

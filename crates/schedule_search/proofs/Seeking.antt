@@ -1,18 +1,13 @@
 -- What a search hands back, from what its parts hand back.
-use mathlib.Core.Path.{_≡_, refl, sym, ap, _∙_}
-use mathlib.Core.Bool.{Bool, true, false}
-use mathlib.Core.List.{List}
+use mathlib.Core.{Path.{_≡_, refl, sym, ap, _∙_}, Bool.{Bool, true, false}, List.List}
 use Prim.Native.Nat.{ℕ, zero, suc, _+_, _-_, _<_, _≤_}
 use native.Mathlib.Omega.{arith}
 use borrow.Author.Tests.{ne-eqb}
-use Rattle.model.specs.Tables.{Queue, tablesOf}
-use Rattle.model.proofs.tests.Truth.{not-both}
-use Rattle.schedule_model.specs.Schedules.{ends, bothAnswered}
-use Rattle.schedule_model.specs.Next.{Next, given, noMore}
+use Rattle.model.{specs.Tables.{Queue, tablesOf}, proofs.tests.Truth.not-both}
+use Rattle.schedule_model.specs.{Schedules.{ends, bothAnswered}, Next.{Next, given, noMore}}
 use Rattle.schedule_model.specs.Search.{ended, orElse, frees, tried, seekBy}
-use Rattle.schedule_search.specs.declared.Found.{Found}
-use Rattle.schedule_search.specs.Stepped.{moved}
-use Rattle.schedule_search.specs.Sought.{seeking, branch, foundOf, written, Sought, sought, goesOn, endsHere, under}
+use Rattle.schedule_search.specs.{declared.Found.Found, Stepped.moved, Sought.under}
+use Rattle.schedule_search.specs.Sought.{seeking, branch, foundOf, written, Sought, sought, goesOn, endsHere}
 
 abbrev pub handed : Found → List ℕ → Queue → Sought
 handed f ws q = record { found = f; memory = ws; queue = q }

@@ -1,36 +1,19 @@
 -- A step, what is found below it, and back: the queue is as before, and the step stands in the memory.
-use mathlib.Core.Path.{_≡_, refl, sym, ap, subst, _∙_}
-use mathlib.Core.Bool.{Bool, true, false, _||_, not, cond}
+use mathlib.Core.{Path.{_≡_, refl, sym, ap, subst, _∙_}, Bool.{Bool, true, false, _||_, not, cond}}
 use mathlib.Core.List.{List, [], _∷_}
 use Prim.Native.Nat.{ℕ, suc, _+_, _-_, _<_, _≤_}
 use native.Mathlib.Omega.{arith}
-use lib.Dec.{eqb}
-use lib.ListN.{length, getD, set}
-use lib.Seq.{sets, set-comm, set-getD, set-set}
-use Rattle.model.specs.declared.Call.{Call}
-use Rattle.model.specs.declared.Record.{Record}
-use Rattle.model.specs.declared.Outcome.{Outcome}
-use Rattle.model.specs.declared.Outcome.the-variants.{Refused, Moved}
-use Rattle.model.specs.Tables.{Tables, Queue, tablesOf, taskAt, unused}
-use Rattle.model.specs.Ends.{isMoved}
-use Rattle.model.specs.Places.{row, wordFound}
-use Rattle.model.specs.Refusals.{stepSound}
-use Rattle.model.specs.Calls.{Acted, finish, Done, back}
-use Rattle.model.proofs.tests.Truth.{either}
-use Rattle.engine.specs.MoveOn.{moveOn}
-use Rattle.engine.proofs.InParts.{fault, here}
-use Rattle.rows.specs.Rows.{controlOf, callOf, recordOf, queueIn}
-use Rattle.rows.specs.Moved.{RowMoved}
+use lib.{Dec.eqb, ListN.{length, getD, set}, Seq.{sets, set-comm, set-getD, set-set}}
+use Rattle.model.specs.declared.{Call.Call, Record.Record, Outcome.{Outcome, the-variants.{Refused, Moved}}}
+use Rattle.model.specs.{Tables.{Tables, Queue, tablesOf, taskAt, unused}, Ends.isMoved, Places.{row, wordFound}}
+use Rattle.model.{specs.{Refusals.stepSound, Calls.{Acted, finish, Done, back}}, proofs.tests.Truth.either}
+use Rattle.engine.{specs.StepAdmitted.stepAdmitted, proofs.InParts.{fault, here}}
+use Rattle.rows.specs.{Rows.{controlOf, callOf, recordOf, queueIn}, Moved.RowMoved}
 use Rattle.rows.proofs.Rows.{record-read, record-put}
-use Rattle.schedule_model.specs.declared.Saved.{Saved}
-use Rattle.schedule_model.specs.Next.{Next, given, noMore}
-use Rattle.schedule_model.specs.Schedules.{atWork}
-use Rattle.schedule_model.specs.Search.{prefixed, stepped, skips, frees}
-use Rattle.schedule_model.specs.Undo.{saved, putBack}
+use Rattle.schedule_model.specs.{declared.Saved.Saved, Next.{Next, given, noMore}, Schedules.atWork}
+use Rattle.schedule_model.specs.{Search.{prefixed, stepped, skips, frees}, Undo.{saved, putBack}}
 use Rattle.schedule_model.proofs.Undone.{undoes}
-use Rattle.schedule_search.specs.declared.Found.{Found}
-use Rattle.schedule_search.specs.declared.undo.Kept.{Kept}
-use Rattle.schedule_search.specs.Stepped.{moved, Steps, restored}
+use Rattle.schedule_search.specs.{declared.{Found.Found, undo.Kept.Kept}, Stepped.{moved, Steps, restored}}
 use Rattle.schedule_search.specs.Sought.{seeking, branch, choice, foundOf, written, Sought, sought, under}
 use Rattle.schedule_search.proofs.Seeking.{handed, none-here}
 
@@ -63,8 +46,8 @@ module _ (left t : ℕ) (some : 0 < left) (few : left ≤ 48) where
       ap (λ (n : ℕ). set (sets ws n (s .steps)) (49 - left) t) z ∙ sets-above ws (s .steps) (suc (49 - left)) (49 - left) t (omega arith)
 
 -- The tables after a step and back.
-tables-back : (q : Tables) (r : Record) → putBack (saved (row (r .call)) q) (moveOn q r .tables) ≡ q
-unfolding moveOn finish
+tables-back : (q : Tables) (r : Record) → putBack (saved (row (r .call)) q) (stepAdmitted q r .tables) ≡ q
+unfolding stepAdmitted finish
 tables-back q r =
     either Back (eqb (fault q r) 0)
     (subst Back (sym (here q r)) (either Back (eqb (cond (stepSound (q .control) (r .call) (wordFound q (r .call))) 0 34) 0) (undoes q (r .call) .1) refused))
@@ -81,7 +64,7 @@ all-back : (q q₁ : Queue) (t : ℕ) (k : Kept) → Steps q t k q₁ → restor
 unfolding moved
 all-back q q₁ t k s =
     let r = taskAt q t in
-    let a = moveOn (q .tables) r in
+    let a = stepAdmitted (q .tables) r in
     let tables : putBack (k .saved) (a .tables) ≡ q .tables =
     ap (λ (x : Saved). putBack x (a .tables)) (s .words-kept) ∙ tables-back (q .tables) r
     in
@@ -106,7 +89,7 @@ module _ (control : List ℕ) (pair : List (List ℕ)) (lefts rights labels mark
   unfolding moved recordOf
   steps control₁ row₁ lefts₁ rights₁ labels₁ marks₁ next₁ r s o moves whose kept made told =
       let done : _≡_ {A = Done} (record { queue = queueIn control₁ (set pair t row₁) lefts₁ rights₁ labels₁ marks₁ next₁; outcome = o }) (moved Q t) =
-      rw (record-put pair t row₁) (ap (back Q t) (made .0 ∙ ap (moveOn (Q .tables)) (record-read pair t)))
+      rw (record-put pair t row₁) (ap (back Q t) (made .0 ∙ ap (stepAdmitted (Q .tables)) (record-read pair t)))
       in
       record {
         record-kept = record-read pair t;

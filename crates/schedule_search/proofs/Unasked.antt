@@ -1,18 +1,12 @@
 -- On an admitted queue the search finds what it finds by steps that ask for admission each time.
-use mathlib.Core.Path.{_≡_, refl, ap}
-use mathlib.Core.Bool.{Bool}
-use mathlib.Core.List.{List}
+use mathlib.Core.{Path.{_≡_, refl, ap}, Bool.Bool, List.List}
 use Prim.Native.Nat.{ℕ, _<_}
 use borrow.Author.Tests.{lt-ltb}
-use Rattle.model.specs.declared.Op.the-variants.{Step}
-use Rattle.model.specs.Tables.{Queue, taskAt}
-use Rattle.model.specs.Refusals.{among, admission}
+use Rattle.model.specs.{declared.Op.the-variants.Step, Tables.{Queue, taskAt}, Refusals.{among, admission}}
 use Rattle.model.specs.Calls.{actOn, back, act}
 use Rattle.engine.proofs.InParts.{why, admitted}
-use Rattle.schedule_model.proofs.OnlyUnsound.{Ready}
-use Rattle.schedule_model.proofs.AnyStep.{seekOf, any-step}
-use Rattle.schedule_search.specs.Stepped.{moved}
-use Rattle.schedule_search.specs.Sought.{seeking}
+use Rattle.schedule_model.proofs.{OnlyUnsound.Ready, AnyStep.{seekOf, any-step}}
+use Rattle.schedule_search.specs.{Stepped.moved, Sought.seeking}
 
 no-fault : (q : Queue) (t : ℕ) → Ready q → t < 2 → why (q .tables) (among q t) (taskAt q t) ≡ 0
 unfolding admission

@@ -1,16 +1,11 @@
 -- What a search hands back by value, with the memory and the queue that it was lent.
-use mathlib.Core.Bool.{Bool, true, false, _||_, not, cond}
-use mathlib.Core.List.{List}
+use mathlib.Core.{Bool.{Bool, true, false, _||_, not, cond}, List.List}
 use Prim.Native.Nat.{ℕ, _+_, _-_}
-use lib.Dec.{eqb}
-use lib.ListN.{length}
-use lib.Seq.{sets}
+use lib.{Dec.eqb, ListN.length, Seq.sets}
 use Rattle.model.specs.Tables.{Queue}
-use Rattle.schedule_model.specs.Schedules.{answeredBoth, wasCut, wasRefused, ends, atWork}
-use Rattle.schedule_model.specs.Next.{Next, given, noMore}
+use Rattle.schedule_model.specs.{Schedules.{answeredBoth, wasCut, wasRefused, ends, atWork}, Next.{Next, given, noMore}}
 use Rattle.schedule_model.specs.Search.{ended, skips, frees, tried, seekBy}
-use Rattle.schedule_search.specs.declared.Found.{Found}
-use Rattle.schedule_search.specs.Stepped.{moved}
+use Rattle.schedule_search.specs.{declared.Found.Found, Stepped.moved}
 
 abbrev pub seeking : List ℕ → ℕ → ℕ → Bool → Queue → Next
 seeking = seekBy moved

@@ -1,20 +1,16 @@
 -- A step of the search, and back.
-use mathlib.Core.Path.{_≡_}
-use mathlib.Core.Bool.{not}
+use mathlib.Core.{Path._≡_, Bool.not}
 use Prim.Native.Nat.{ℕ}
 use lib.ListN.{set}
-use Rattle.model.specs.Tables.{Queue, taskAt, recordAt}
-use Rattle.model.specs.Places.{row}
-use Rattle.model.specs.Ends.{isMoved}
-use Rattle.model.specs.Calls.{Done, back}
-use Rattle.engine.specs.MoveOn.{moveOn}
+use Rattle.model.specs.{Tables.{Queue, taskAt, recordAt}, Places.row, Ends.isMoved, Calls.{Done, back}}
+use Rattle.engine.specs.StepAdmitted.{stepAdmitted}
 use Rattle.rows.specs.Rows.{recordOf}
 use Rattle.schedule_model.specs.Undo.{saved, putBack}
 use Rattle.schedule_search.specs.declared.undo.Kept.{Kept}
 
 -- The step of a task whose queue is admitted, which is asked once for the whole search.
 unfoldable pub moved : Queue → ℕ → Done
-moved q t = back q t (moveOn (q .tables) (taskAt q t))
+moved q t = back q t (stepAdmitted (q .tables) (taskAt q t))
 
 -- Task t stepped from q on: k holds what the step can write, as it was in q.
 pub record Steps (q : Queue) (t : ℕ) (k : Kept) (q′ : Queue) : Type 0 where

@@ -1,13 +1,10 @@
 //! The search for a schedule: a step, what comes after it, and back.
-ghost use mathlib.Core.Path.{_≡_};
-ghost use mathlib.Core.Bool.{cond, false};
-ghost use mathlib.Core.List.{[], _∷_};
+ghost use mathlib.Core.{Path._≡_, Bool.{cond, false}, List.{[], _∷_}};
 ghost use Prim.Native.Nat.{_≤_, _<_};
 ghost use lib.ListN.{set};
 ghost use Rattle.model.specs.Tables.{Tables};
 ghost use Rattle.rows.specs.Rows.{recordsOf, queueIn};
-ghost use Rattle.schedule_model.specs.Schedules.{ends, bothAnswered};
-ghost use Rattle.schedule_model.specs.Search.{ended};
+ghost use Rattle.schedule_model.specs.{Schedules.{ends, bothAnswered}, Search.ended};
 ghost use Rattle.schedule_search.specs.Sought.{seeking, branch, choice, foundOf, Sought, sought, endsHere, under};
 
 mod undo;

@@ -1,18 +1,12 @@
 -- An opening, and what follows it.
 use Prim.Native.Nat.{ℕ, _*_, _≤_}
-use mathlib.Core.Path.{_≡_, refl, sym, ap, _∙_}
-use mathlib.Core.Bool.{Bool, true, false}
-use mathlib.Core.List.{List}
+use mathlib.Core.{Path.{_≡_, refl, sym, ap, _∙_}, Bool.{Bool, true, false}, List.List}
 use native.Mathlib.Omega.{arith}
 use lib.{Dec.eqb, ListN.length}
-use Rattle.model.specs.declared.Opening.{Opening}
-use Rattle.model.specs.declared.Opening.the-variants.{Refused, Opened}
-use Rattle.model.specs.{Tables.Queue, Refusals.openRefusal}
-use Rattle.model.specs.Calls.{OpenDone, opened, openAs, openingCode}
-use Rattle.model.specs.History.{Request, run, final, NoSlotTrue}
-use Rattle.model.proofs.{Linearizable.linearizable, Never34.never-34, Retries.retries-sum}
-use Rattle.model.proofs.NoSlot.{no-slot-right}
-use Rattle.model.proofs.tests.Truth.{split}
+use Rattle.model.specs.{declared.Opening.{Opening, the-variants.{Refused, Opened}}, Tables.Queue, Refusals.openRefusal}
+use Rattle.model.specs.{Calls.{OpenDone, opened, openAs, openingCode}, History.{Request, run, final, NoFreeSlotTrue}}
+use Rattle.model.proofs.{Linearizable.linearizable, Never34.never-34, Retries.retries-sum, tests.Truth.split}
+use Rattle.model.proofs.NoFreeSlot.{no-free-slot-right}
 use Rattle.stock_model.proofs.Accounts.{every-label, stock-taking}
 use Rattle.capi.specs.Replies.{uppersAt, Coded, coded}
 use Rattle.serve.specs.Requests.{requestsOf, requestsFrom, repliesOf}
@@ -46,11 +40,11 @@ module _ (pooled : Bool) (q : Queue) (tasks slots tag : ℕ) where
   unfolding openAs opened
   opened-tasks e = split (eqb why 0) (λ h. rw h) (λ h. absurd (apart (let z : Refused why ≡ Opened = rw h at e in sym z)))
 
-  truthful : (os : List Request) → done .outcome ≡ Opened → pooled ≡ true → NoSlotTrue (done .queue) os
+  truthful : (os : List Request) → done .outcome ≡ Opened → pooled ≡ true → NoFreeSlotTrue (done .queue) os
   truthful os e p = go pooled p e
     where
-      go : (b : Bool) → b ≡ true → openAs b q tasks slots tag .outcome ≡ Opened → NoSlotTrue (openAs b q tasks slots tag .queue) os
-      go true h f = no-slot-right q tasks slots tag f os
+      go : (b : Bool) → b ≡ true → openAs b q tasks slots tag .outcome ≡ Opened → NoFreeSlotTrue (openAs b q tasks slots tag .queue) os
+      go true h f = no-free-slot-right q tasks slots tag f os
       go false h f = absurd (let z : _≡_ {A = ℕ} 0 1 = cc in omega arith)
 
 -- The operations that follow it.

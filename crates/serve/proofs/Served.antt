@@ -1,18 +1,15 @@
 -- What one operation leaves, and a list of them one by one.
 use Prim.Native.Nat.{ℕ, suc, _+_, _*_, _-_, _<_, _%_, _^_}
-use mathlib.Core.Path.{_≡_, sym, ap, _∙_}
-use mathlib.Core.List.{List, _∷_}
+use mathlib.Core.{Path.{_≡_, sym, ap, _∙_}, List.{List, _∷_}}
 use native.Mathlib.{Numerals.add-one, Omega.arith}
 use borrow.Author.Tests.{eq-eqb, ne-eqb}
 use lib.Seq.{sets}
-use Rattle.model.specs.declared.Op.the-variants.{Push, Pop, PushPooled, Step}
-use Rattle.model.specs.Calls.{act}
+use Rattle.model.specs.{declared.Op.the-variants.{Push, Pop, PushPooled, Step}, Calls.act}
 use Rattle.model.specs.History.{Request, run, final}
 use Rattle.capi.specs.Replies.{Replied, replied}
-use Rattle.serve.specs.declared.request.Request.{Request as Asked}
+use Rattle.serve.specs.{declared.request.Request.Request as RequestRow, Serving.{State, uppersAfter, served}}
 use Rattle.serve.specs.Requests.{opOf, requestAt, requestsFrom, replyWords, repliesOf}
 use Rattle.rows.specs.Rows.{writesRow}
-use Rattle.serve.specs.Serving.{State, uppersAfter, served}
 
 -- An operation and then the rest.
 served-more : (n : ℕ) (s : State) (o : Request) (os : List Request) (d : Replied) (replies : List ℕ)
@@ -49,8 +46,8 @@ module _ (words : List ℕ) (i count : ℕ) where
       ∙ ap (λ (k : ℕ). served (3 * i) s (requestsFrom i k words)) (sym m)
 
 -- What a struct of five words asks for.
-abbrev pub asked : Asked → Request
-asked r = record { task = r .task; op = opOf (r .operation) (r .side) (r .slot) (r .label) }
+abbrev pub requestIn : RequestRow → Request
+requestIn r = record { task = r .task; op = opOf (r .operation) (r .side) (r .slot) (r .label) }
 
 -- Which operation a number names.
 module _ (code side slot label : ℕ) where
@@ -62,9 +59,9 @@ module _ (code side slot label : ℕ) where
   unfolding opOf
   a-pop e = rw (ne-eqb code 0 (λ z. omega arith), eq-eqb code 1 e)
 
-  pub a-put : code ≡ 2 → opOf code side slot label ≡ PushPooled side (label % 2 ^ 32)
+  pub a-push-pooled : code ≡ 2 → opOf code side slot label ≡ PushPooled side (label % 2 ^ 32)
   unfolding opOf
-  a-put e = rw (ne-eqb code 0 (λ z. omega arith), ne-eqb code 1 (λ z. omega arith), eq-eqb code 2 e)
+  a-push-pooled e = rw (ne-eqb code 0 (λ z. omega arith), ne-eqb code 1 (λ z. omega arith), eq-eqb code 2 e)
 
   pub a-step : 2 < code → opOf code side slot label ≡ Step
   unfolding opOf

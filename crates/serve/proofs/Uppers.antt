@@ -1,24 +1,16 @@
 -- After an opening the upper halves of the tasks' labels are zero, and stay so.
 use Prim.Native.Nat.{ℕ, zero, suc, _<_}
-use mathlib.Core.Path.{_≡_, refl, ap, _∙_}
-use mathlib.Core.Bool.{true, false}
-use mathlib.Core.List.{List, [], _∷_, _++_}
+use mathlib.Core.{Path.{_≡_, refl, ap, _∙_}, Bool.{true, false}, List.{List, [], _∷_, _++_}}
 use native.Mathlib.Omega.{arith}
-use lib.Dec.{eqb}
-use lib.ListN.{replicate, drop, set}
+use lib.{Dec.eqb, ListN.{replicate, drop, set}}
 use borrow.Author.Tests.{eqb-true}
-use Rattle.model.specs.declared.{Op.Op, Outcome.Outcome, Record.Record}
-use Rattle.model.specs.declared.Op.the-variants.{Push, Pop, PushPooled, Step}
-use Rattle.model.specs.declared.Outcome.the-variants.{Refused, Moved}
-use Rattle.model.specs.Tables.{Tables, Queue, recordAt}
-use Rattle.model.specs.Refusals.{among, pushRefusal, putRefusal, popRefusal, stepRefusal}
-use Rattle.model.specs.Calls.{Acted, decide, pushStart, putStart, popStart, step, actOn, act}
-use Rattle.model.specs.Ends.{isMoved, endsCall}
-use Rattle.model.specs.History.{Request, run}
-use Rattle.model.proofs.tests.Truth.{split, not-both}
-use Rattle.model.proofs.laws.Sizes.{act-tasks}
-use Rattle.model.proofs.bridge.Accepted.{push-accepted, put-accepted, pop-accepted, step-accepted}
-use Rattle.model.specs.Lists.{zeroed}
+use Rattle.model.specs.{declared.{Op.{Op, the-variants.{Push, Pop, PushPooled, Step}}, Record.Record}, Lists.zeroed}
+use Rattle.model.specs.{declared.Outcome.{Outcome, the-variants.{Refused, Moved}}, Tables.{Tables, Queue, recordAt}}
+use Rattle.model.specs.Refusals.{among, pushRefusal, pushPooledRefusal, popRefusal, stepRefusal}
+use Rattle.model.specs.Calls.{Acted, decide, pushStart, pushPooledStart, popStart, step, actOn, act}
+use Rattle.model.specs.{Ends.{isMoved, endsCall}, History.{Request, run}}
+use Rattle.model.proofs.{tests.Truth.{split, not-both}, laws.Sizes.act-tasks}
+use Rattle.model.proofs.bridge.Accepted.{push-accepted, push-pooled-accepted, pop-accepted, step-accepted}
 use Rattle.rows.specs.Rows.{writesRow}
 use Rattle.serve.specs.Serving.{uppersAfter}
 
@@ -28,11 +20,12 @@ unrefused why q r done m = split (eqb why 0) (λ e. eqb-true _ _ e) (λ e. absur
 
 -- So its task is one of the queue's.
 moved-known : (q : Queue) (t : ℕ) (o : Op) → isMoved (act q t o .outcome) ≡ true → t < q .tables .control .tasks
-unfolding act actOn pushStart putStart popStart step
+unfolding act actOn pushStart pushPooledStart popStart step
 moved-known q t (Push side slot label) m =
     push-accepted q t side slot (unrefused (pushRefusal (q .tables) (among q t) (recordAt q t) side slot) _ _ _ m) .starting .lies .known
 moved-known q t (Pop side) m = pop-accepted q t side (unrefused (popRefusal (q .tables) (among q t) (recordAt q t) side) _ _ _ m) .lies .known
-moved-known q t (PushPooled side label) m = put-accepted q t side (unrefused (putRefusal (q .tables) (among q t) (recordAt q t) side) _ _ _ m) .0 .lies .known
+moved-known q t (PushPooled side label) m = push-pooled-accepted q t side
+    (unrefused (pushPooledRefusal (q .tables) (among q t) (recordAt q t) side) _ _ _ m) .0 .lies .known
 moved-known q t Step m = step-accepted q t (unrefused (stepRefusal (q .tables) (among q t) (recordAt q t)) _ _ _ m) .lies .known
 
 -- A row that is written whole is one of an operation that was carried out.

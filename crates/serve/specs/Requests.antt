@@ -1,11 +1,8 @@
 -- A list of operations in words: five a request (task, operation, side, slot, label), three a reply (code, label, value).
-use mathlib.Core.Bool.{cond}
-use mathlib.Core.List.{List, [], _∷_, _++_}
+use mathlib.Core.{Bool.cond, List.{List, [], _∷_, _++_}}
 use Prim.Native.Nat.{ℕ, zero, suc, _+_, _*_, _/_, _%_, _^_, min}
 use lib.{Dec.eqb, ListN.getD}
-use Rattle.model.specs.declared.{Op.Op, Reply.Reply}
-use Rattle.model.specs.declared.Op.the-variants.{Push, Pop, PushPooled, Step}
-use Rattle.model.specs.Calls.{replyOf}
+use Rattle.model.specs.{declared.{Op.{Op, the-variants.{Push, Pop, PushPooled, Step}}, Reply.Reply}, Calls.replyOf}
 use Rattle.model.specs.History.{Request, Event}
 
 -- 0 is a push, 1 a pop, 2 a push that names no slot, any other number a step. A label has 32 bits.

@@ -1,19 +1,13 @@
 -- An opening and a list of operations after it: what is answered and left, and what the theorems on histories say of it.
-use mathlib.Core.Bool.{Bool, true, cond}
-use mathlib.Core.List.{List, [], _∷_, _++_}
-use mathlib.Core.Path.{_≡_}
+use mathlib.Core.{Bool.{Bool, true, cond}, List.{List, [], _∷_, _++_}, Path._≡_}
 use Prim.Native.Nat.{ℕ}
-use lib.{Dec.eqb, Seq.sets}
-use lib.ListN.{length, set}
-use Rattle.model.specs.declared.Opening.{Opening}
-use Rattle.model.specs.declared.Opening.the-variants.{Refused, Opened}
-use Rattle.model.specs.{Tables.Queue, Retries.SumIsOld, Lists.zeroed}
-use Rattle.model.specs.Calls.{OpenDone, openAs, openingCode}
-use Rattle.model.specs.History.{Request, Event, run, final, Linearized, NeverUnsound, NoSlotTrue}
+use lib.{Dec.eqb, Seq.sets, ListN.{length, set}}
+use Rattle.model.specs.{declared.Opening.{Opening, the-variants.{Refused, Opened}}, Tables.Queue, Retries.SumIsOld}
+use Rattle.model.specs.{Lists.zeroed, Calls.{OpenDone, openAs, openingCode}}
+use Rattle.model.specs.History.{Request, Event, run, final, Linearized, NeverUnsound, NoFreeSlotTrue}
 use Rattle.stock_model.specs.Accounts.{Accounted, StockSum}
 use Rattle.rows.specs.Rows.{queueIn, uppersOf, writesRow}
-use Rattle.serve.specs.declared.ServeReply.{ServeReply}
-use Rattle.serve.specs.Requests.{requestsOf, repliesOf, room}
+use Rattle.serve.specs.{declared.ServeReply.ServeReply, Requests.{requestsOf, repliesOf, room}}
 
 -- All that is lent but the requests: the queue, the upper halves of the labels' words in the records, which are in no field, and
 -- the memory of the replies.
@@ -54,7 +48,7 @@ pub record CarriedOut (pooled : Bool) (tasks : ℕ) (q : Queue) (os : List Reque
   pub counts : SumIsOld q os
   pub accounts : Accounted q os
   pub stock : StockSum q os
-  pub truthful : pooled ≡ true → (done left : List Request) → os ≡ done ++ left → NoSlotTrue q done
+  pub truthful : pooled ≡ true → (done left : List Request) → os ≡ done ++ left → NoFreeSlotTrue q done
 
 -- A refused opening changes nothing. After an accepted one as many requests are carried out as there are and have room for a reply.
 abbrev pub FollowsOn : Bool → ℕ → Opening → Queue → List ℕ → State → State → ℕ → Type 0

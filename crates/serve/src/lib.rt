@@ -8,13 +8,10 @@ mod reply;
 mod request;
 mod turn;
 
-ghost use mathlib.Core.Path.{_≡_};
-ghost use mathlib.Core.Bool.{not};
+ghost use mathlib.Core.{Path._≡_, Bool.not};
 ghost use Prim.Native.Nat.{_*_, _≤_};
-ghost use lib.Dec.{eqb};
-ghost use lib.ListN.{length};
-ghost use Rattle.serve.specs.Requests.{requestsOf};
-ghost use Rattle.serve.specs.Serving.{stateIn, served, countAfter, Serves};
+ghost use lib.{Dec.eqb, ListN.length};
+ghost use Rattle.serve.specs.{Requests.requestsOf, Serving.{stateIn, served, countAfter, Serves}};
 
 /// The words of a request, and of a reply.
 const REQUEST_WORDS: usize = 5;
@@ -36,9 +33,9 @@ fn count_after(code: u32, requests: usize, replies: usize) -> usize
     if code != 0 {
         return 0;
     }
-    let asked = requests / REQUEST_WORDS;
+    let given = requests / REQUEST_WORDS;
     let fit = replies / REPLY_WORDS;
-    if asked <= fit { asked } else { fit }
+    if given <= fit { given } else { fit }
 }
 
 // The first `count` requests, in order.

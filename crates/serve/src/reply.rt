@@ -2,8 +2,7 @@
 use model::Reply;
 ghost use mathlib.Core.Path.{_≡_};
 ghost use Prim.Native.Nat.{_+_, _*_, _≤_};
-ghost use lib.ListN.{length};
-ghost use lib.Seq.{sets};
+ghost use lib.{ListN.length, Seq.sets};
 ghost use Rattle.serve.specs.Requests.{replyWords};
 
 /// Stores reply i.

@@ -1,21 +1,13 @@
 -- Rows of bits show their marks, and the words of #112 hold the chained rules.
-use mathlib.Core.Bool.{Bool, true, false, _||_}
-use mathlib.Core.List.{List, _++_}
-use mathlib.Core.Path.{_≡_, refl, sym, ap, _∙_}
+use mathlib.Core.{Bool.{Bool, true, false, _||_}, List.{List, _++_}, Path.{_≡_, refl, sym, ap, _∙_}}
 use Prim.Native.Nat.{ℕ, zero, suc, _+_, _*_, _%_, _^_, _≤_, _<_, max}
-use native.Mathlib.Nat.{pow-succ'}
-use native.Mathlib.Omega.{arith}
-use lib.Bits.{bitOr, or-step}
-use lib.Dec.{eqb}
-use lib.Pow.{pow-lt}
-use lib.ListN.{length, replicate, length-append}
+use native.Mathlib.{Nat.pow-succ', Omega.arith}
+use lib.{Bits.{bitOr, or-step}, Dec.eqb, Pow.pow-lt, ListN.{length, replicate, length-append}}
 use borrow.Author.Tests.{eq-eqb, ne-eqb, eqb-true, eqb-false}
 use Rattle.model.proofs.tests.Truth.{split}
-use Rattle.sheet_model.specs.Sheet.{any, outside}
-use Rattle.sheet_model.specs.Words.{listOf, mark, linked, bitsOf, wordsOf}
+use Rattle.sheet_model.specs.{Sheet.{any, outside}, Words.{listOf, mark, linked, bitsOf, wordsOf}}
+use Rattle.sheet_model.proofs.{Words.{bit-at, half, odd}, ListOf.length-listOf}
 use Rattle.sheet.specs.Squares.{bitRow, rounds, rulesMarked}
-use Rattle.sheet_model.proofs.Words.{bit-at, half, odd}
-use Rattle.sheet_model.proofs.ListOf.{length-listOf}
 use Rattle.sheet.proofs.Rounds.{Shows, marks-chained}
 
 abbrev pub bits : (ℕ → Bool) → ℕ

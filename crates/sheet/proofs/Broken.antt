@@ -1,26 +1,16 @@
 -- What the square and the positions tell is what breaks the sheet, and the first pair found is the verdict.
-use mathlib.Core.Bool.{Bool, true, false, _&&_, cond}
-use mathlib.Core.List.{List, reverse}
-use mathlib.Core.Logic.{_⊎_, inl, inr}
+use mathlib.Core.{Bool.{Bool, true, false, _&&_, cond}, List.{List, reverse}, Logic.{_⊎_, inl, inr}}
 use mathlib.Core.Path.{_≡_, refl, sym, ap, _∙_}
 use Prim.Native.Nat.{ℕ, zero, suc, _+_, _-_, _≤_, _<_}
 use native.Mathlib.Omega.{arith}
-use lib.Dec.{eqb, leb}
-use lib.ListN.{length, getD}
+use lib.{Dec.{eqb, leb}, ListN.{length, getD}}
 use borrow.Author.Tests.{eq-eqb, ne-eqb}
-use Rattle.model.specs.declared.Entry.{Entry}
-use Rattle.model.proofs.tests.Truth.{decide-eq}
-use Rattle.sheet_model.specs.declared.SheetReply.{SheetReply}
-use Rattle.sheet_model.specs.Sheet.{Sheet, chained, waits, leftOf, breaks}
-use Rattle.sheet_model.specs.Words.{linked}
-use Rattle.sheet.specs.Squares.{Row, crossed}
-use Rattle.sheet.specs.Extents.{Noting, placeOf, firstAt}
-use Rattle.sheet_model.specs.Verdict.{brokenBy, verdict}
-use Rattle.sheet.specs.Search.{inRow, inRows}
-use Rattle.sheet_model.proofs.Formed.{Formed}
-use Rattle.sheet.proofs.Searched.{verdict-is}
-use Rattle.sheet.proofs.Rounds.{Shows, marks, row-at}
-use Rattle.sheet.proofs.Crossing.{meets, lowest, highest, crosses-up, crosses-down, meets-reverse, meets-left, meets-self}
+use Rattle.model.{specs.declared.Entry.Entry, proofs.tests.Truth.decide-eq}
+use Rattle.sheet_model.specs.{declared.SheetReply.SheetReply, Sheet.{Sheet, chained, waits, leftOf, breaks}}
+use Rattle.sheet_model.{specs.{Words.linked, Verdict.{brokenBy, verdict}}, proofs.Formed.Formed}
+use Rattle.sheet.specs.{Squares.{Row, crossed}, Extents.{Noting, placeOf, firstAt}, Search.{inRow, inRows}}
+use Rattle.sheet.proofs.{Searched.verdict-is, Rounds.{Shows, marks, row-at}, Crossing.meets-self}
+use Rattle.sheet.proofs.Crossing.{meets, lowest, highest, crosses-up, crosses-down, meets-reverse, meets-left}
 use Rattle.sheet.proofs.Noted.{notedAll, label-place, low-noted, high-noted}
 
 -- The entries met, from left to right, of a walk from the left or from the right.

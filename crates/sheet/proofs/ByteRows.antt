@@ -1,22 +1,15 @@
 -- Rows of bytes show their marks, and the square of #111 holds the chained rules.
-use mathlib.Core.Bool.{Bool, true, false, _||_, not}
-use mathlib.Core.List.{List, []}
-use mathlib.Core.Logic.{_⊎_, inl, inr}
+use mathlib.Core.{Bool.{Bool, true, false, _||_, not}, List.{List, []}, Logic.{_⊎_, inl, inr}}
 use mathlib.Core.Path.{_≡_, refl, sym, ap, _∙_}
 use Prim.Native.Nat.{ℕ, _≤_, _<_}
 use native.Mathlib.Omega.{arith}
-use lib.Bits.{bitOr}
-use lib.Dec.{eqb}
-use lib.ListN.{getD, set, replicate, length-set}
-use lib.Seq.{getD-set-same, getD-set-other}
+use lib.{Bits.bitOr, Dec.eqb, ListN.{getD, set, replicate, length-set}, Seq.{getD-set-same, getD-set-other}}
 use borrow.Author.Tests.{eq-eqb, ne-eqb}
 use Rattle.model.proofs.tests.Truth.{decide-eq}
-use Rattle.sheet_model.specs.Sheet.{any, outside}
-use Rattle.sheet_model.specs.Words.{listOf, mark, linked}
-use Rattle.sheet.specs.Squares.{squareOf, ored, joinRow, byteRow, rounds, rulesMarked}
+use Rattle.sheet_model.specs.{Sheet.{any, outside}, Words.{listOf, mark, linked}}
 use Rattle.sheet_model.proofs.ListOf.{length-listOf, getD-listOf, as-listOf, ext-listOf}
-use Rattle.sheet.proofs.Sweep.{sweep-listOf}
-use Rattle.sheet.proofs.Rounds.{Shows, marks, marks-chained}
+use Rattle.sheet.specs.Squares.{squareOf, ored, joinRow, byteRow, rounds, rulesMarked}
+use Rattle.sheet.proofs.{Sweep.sweep-listOf, Rounds.{Shows, marks, marks-chained}}
 
 abbrev pub bytes : (ℕ → Bool) → List ℕ
 bytes f = listOf (λ b. mark (f b)) 32

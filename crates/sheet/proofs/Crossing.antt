@@ -1,11 +1,9 @@
 -- Lowest and highest positions tell whether a copy of one label waits at or before a copy of another.
-use mathlib.Core.Bool.{Bool, true, false, _&&_, _||_, cond}
-use mathlib.Core.List.{List, [], _∷_, _++_, reverse, reverse-cons}
+use mathlib.Core.{Bool.{Bool, true, false, _&&_, _||_, cond}, List.{List, [], _∷_, _++_, reverse, reverse-cons}}
 use mathlib.Core.Path.{_≡_, refl, sym, ap, _∙_}
 use Prim.Native.Nat.{ℕ, _+_, _-_, _≤_, min, max}
 use native.Mathlib.Omega.{arith}
-use lib.Dec.{eqb, leb, ltb}
-use lib.ListN.{length}
+use lib.{Dec.{eqb, leb, ltb}, ListN.length}
 use borrow.Author.Tests.{eqb-true, ne-eqb, leb-true, leb-false, le-leb, lt-leb, ltb-true, ltb-false}
 use Rattle.model.specs.declared.Entry.{Entry}
 use Rattle.sheet_model.specs.Sheet.{waits, leftOf}

@@ -1,22 +1,11 @@
 -- A label noted by the walk, and the walk's length.
-use mathlib.Core.Bool.{Bool, true, false, cond}
-use mathlib.Core.List.{List, [], _∷_}
-use mathlib.Core.Path.{_≡_, ap, _∙_}
+use mathlib.Core.{Bool.{Bool, true, false, cond}, List.{List, [], _∷_}, Path.{_≡_, ap, _∙_}}
 use Prim.Native.Nat.{ℕ, zero, suc, _+_, _≤_}
-use native.Mathlib.Nat.{zero-add}
-use native.Mathlib.Omega.{arith}
-use lib.Dec.{eqb, leb}
-use lib.ListN.{length, getD, set}
-use borrow.Author.Tests.{leb-true, ne-eqb}
+use native.Mathlib.{Nat.zero-add, Omega.arith}
+use lib.{Dec.eqb, ListN.{length, getD, set}}
 use Rattle.word.specs.Link.{linkOf}
-use Rattle.model.specs.declared.Entry.{Entry}
-use Rattle.model.specs.Sound.{from1, linkSound}
-use Rattle.model.specs.Walk.{Walk, entries, broken, andThen, along}
-use Rattle.model.proofs.tests.Truth.{and-true, split}
-use Rattle.walk.specs.declared.Way.{Way}
-use Rattle.walk.specs.Ways.{noneOn, ahead}
-use Rattle.walk.proofs.Along.{nowhere}
-use Rattle.sheet.specs.Extents.{Extents, Noting, placeOf, lower, higher, noted, nextAt, gathered, extents, told}
+use Rattle.model.specs.{declared.Entry.Entry, Sound.{from1, linkSound}, Walk.{Walk, entries, broken, andThen, along}}
+use Rattle.sheet.specs.Extents.{Noting, placeOf, lower, higher, noted, nextAt}
 
 -- A label noted at its place.
 pub noted-is : (up : Bool) (listed : List ℕ) (k x y z at : ℕ) (low high low' high' : List ℕ) → k ≡ 0 + placeOf x listed → x ≡ y
@@ -56,16 +45,3 @@ along-short slots links labels last (suc n) x =
     go true true r h = omega arith
     go true false false h = tt
     go true false true h = more (along slots links labels last n (linkOf (getD links x 0) .slot)) h
-
--- From a first slot on the walk is gathered; without one it is empty or broken.
-module _ (w : Way) (listed lefts rights labels : List ℕ) (e : Extents) where
-  pub from-first : from1 (w .slots) (w .first) ≡ true
-      → gathered (w .rightward) listed e (ahead w lefts rights labels) ≡ extents w listed lefts rights labels e
-  unfolding extents
-  from-first z =
-      let one = leb-true 1 (w .first) (and-true (leb 1 (w .first)) (leb (w .first) (w .slots)) z .0) in
-      rw (ne-eqb (w .first) 0 (λ y. omega arith))
-
-  pub from-none : from1 (w .slots) (w .first) ≡ false → told (noneOn w) (e .low) (e .high) ≡ extents w listed lefts rights labels e
-  unfolding extents
-  from-none z = split (noneOn w) (λ y. rw y) (λ y. rw (y, nowhere w lefts rights labels (w .slots) (w .first) z))

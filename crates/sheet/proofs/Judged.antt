@@ -1,36 +1,21 @@
 -- The call's steps, one after the other, make up its meaning.
-use mathlib.Core.Bool.{Bool, true, false, not, _&&_, cond}
-use mathlib.Core.List.{List, []}
-use mathlib.Core.Path.{_≡_, refl, sym, ap, subst, _∙_}
+use mathlib.Core.{Bool.{Bool, true, false, not, _&&_, cond}, List.{List, []}, Path.{_≡_, refl, sym, ap, subst, _∙_}}
 use Prim.Native.Nat.{ℕ, _≤_}
 use native.Mathlib.Omega.{arith}
-use lib.Dec.{eqb, leb}
-use lib.ListN.{length}
+use lib.{Dec.{eqb, leb}, ListN.length}
 use borrow.Author.Tests.{leb-true}
-use Rattle.model.specs.declared.Control.{Control}
-use Rattle.model.specs.Tables.{Tables}
-use Rattle.model.specs.Sound.{controlTests, controlSound, from1, rowsFit}
+use Rattle.model.specs.{declared.Control.Control, Tables.Tables, Sound.{controlTests, controlSound, rowsFit}}
 use Rattle.model.specs.Walk.{Walk, entries, broken, walkFrom, contents, isBroken, met}
-use Rattle.model.proofs.tests.Truth.{split, and-true}
-use Rattle.model.proofs.tests.Rules.{tests}
-use Rattle.sheet_model.specs.declared.SheetReply.{SheetReply}
-use Rattle.sheet_model.specs.Sheet.{Sheet, malformed}
-use Rattle.sheet_model.specs.Words.{linked}
-use Rattle.sheet.specs.Squares.{Row, byteRow, crossed}
-use Rattle.walk.specs.declared.Way.{Way}
-use Rattle.walk.specs.Ways.{wayOf, noneOn, linksOn, ahead}
-use Rattle.walk.specs.Over.{Made, made, lost}
-use Rattle.walk.proofs.Along.{nowhere, nothing, waits, off}
-use Rattle.sheet.specs.Extents.{Extents, gathered, extents, told}
-use Rattle.sheet_model.specs.Verdict.{refused, verdict, judge}
-use Rattle.sheet.specs.Refusals.{unfit}
-use Rattle.sheet.specs.Search.{inRows}
-use Rattle.sheet_model.proofs.Formed.{Formed, formed}
-use Rattle.sheet.proofs.Broken.{found-verdict}
-use Rattle.sheet.proofs.Rounds.{Shows, marks}
-use Rattle.sheet.proofs.ByteRows.{bytes, bytes-show}
+use Rattle.model.proofs.tests.{Truth.and-true, Rules.tests}
+use Rattle.sheet_model.specs.{declared.SheetReply.SheetReply, Sheet.{Sheet, malformed}, Words.linked}
+use Rattle.sheet_model.{specs.Verdict.{refused, verdict, judge}, proofs.Formed.{Formed, formed}}
+use Rattle.sheet.specs.{Squares.{Row, byteRow, crossed}, Extents.{Extents, gathered, extents, told}}
+use Rattle.sheet.specs.{Refusals.unfit, Search.inRows}
+use Rattle.walk.specs.declared.{Beginning.{Beginning, the-variants.{At, Empty, Unsound}}, Way.Way}
+use Rattle.walk.specs.{Ways.{wayOf, beginningOf, linksOn, ahead, walkBy}, Over.{Made, made, lost}}
+use Rattle.walk.proofs.Along.{waits, begins-at}
+use Rattle.sheet.proofs.{Broken.found-verdict, Rounds.{Shows, marks}, ByteRows.{bytes, bytes-show}, Noted.unseen}
 use Rattle.sheet.proofs.Gather.{Short, along-short}
-use Rattle.sheet.proofs.Noted.{unseen}
 
 pub slots-few : (c : Control) → controlSound c ≡ true → c .slots ≤ 1023
 unfolding controlSound
@@ -40,15 +25,15 @@ slots-few c e =
 
 -- The extents as the call finds them.
 abbrev pub extentsIn : Sheet → Tables → Made Extents
-extentsIn s q = extents (wayOf (q .control)) (s .listed) (q .lefts) (q .rights) (q .labels) unseen
+extentsIn s q = extents (beginningOf (q .control)) (s .listed) (q .lefts) (q .rights) (q .labels) unseen
 
 -- As the code tells them.
 module _ (sound : Bool) (low high : List ℕ) {m : Made Extents} where
-  pub tells-made : sound ≡ true → told sound low high ≡ m → made (record { low = low; high = high }) ≡ m
-  tells-made e h = ap (λ (b : Bool). told b low high) (sym e) ∙ h
+  pub told-made : sound ≡ true → told sound low high ≡ m → made (record { low = low; high = high }) ≡ m
+  told-made e h = ap (λ (b : Bool). told b low high) (sym e) ∙ h
 
-  pub tells-lost : sound ≡ false → told sound low high ≡ m → lost ≡ m
-  tells-lost e h = ap (λ (b : Bool). told b low high) (sym e) ∙ h
+  pub told-lost : sound ≡ false → told sound low high ≡ m → lost ≡ m
+  told-lost e h = ap (λ (b : Bool). told b low high) (sym e) ∙ h
 
 -- A square of the chained rules and the extents of a walk w tell the verdict on its entries.
 module _ (s : Sheet) {A : Type 0} (r : Row A) (R : (ℕ → Bool) → A) (law : Shows r R) (beyond : List A) where
@@ -57,11 +42,11 @@ module _ (s : Sheet) {A : Type 0} (r : Row A) (R : (ℕ → Bool) → A) (law : 
       inRows (crossed r (marks r R law beyond (linked (s .rules) (length (s .listed)))) (e .low) (e .high)) (length (s .listed)) 1
       (length (s .listed))
 
-  abbrev pub Tells : Made Extents → Walk → Type 0
-  Tells (made e) w = (isBroken w ≡ false) × (Formed s → found e ≡ verdict s (met w))
-  Tells lost w = isBroken w ≡ true
+  abbrev pub GivesVerdict : Made Extents → Walk → Type 0
+  GivesVerdict (made e) w = (isBroken w ≡ false) × (Formed s → found e ≡ verdict s (met w))
+  GivesVerdict lost w = isBroken w ≡ true
 
-  of-walk : (up : Bool) (w : Walk) → Short 1023 w → Tells (gathered up (s .listed) unseen w) (walkFrom (cond up 0 1) w)
+  of-walk : (up : Bool) (w : Walk) → Short 1023 w → GivesVerdict (gathered up (s .listed) unseen w) (walkFrom (cond up 0 1) w)
   of-walk true (entries l) h = (refl, λ f. found-verdict s f true l h r R law beyond)
   of-walk false (entries l) h = (refl, λ f. found-verdict s f false l h r R law beyond)
   of-walk up broken h = refl
@@ -71,22 +56,20 @@ module _ (s : Sheet) {A : Type 0} (r : Row A) (R : (ℕ → Bool) → A) (law : 
   shorter n broken h g = tt
 
   module _ (q : Tables) (few : q .control .slots ≤ 1023) where
-    abbrev w : Way
-    w = wayOf (q .control)
-
-    short : Short 1023 (ahead w (q .lefts) (q .rights) (q .labels))
+    short : (w : Way) → w ≡ wayOf (q .control) → Short 1023 (ahead w (q .lefts) (q .rights) (q .labels))
     unfolding wayOf
-    short = shorter (w .slots) (ahead w (q .lefts) (q .rights) (q .labels)) few
+    short w e = shorter (w .slots) (ahead w (q .lefts) (q .rights) (q .labels)) (rw e few)
         (along-short (w .slots) (linksOn w (q .lefts) (q .rights)) (q .labels) (w .last) (w .slots) (w .first))
 
-    pub tells : Tells (extentsIn s q) (contents q)
+    pub gives-verdict : GivesVerdict (extentsIn s q) (contents q)
     unfolding extents
-    tells =
-        split (noneOn w)
-        (λ y. rw (y, nothing q w refl y) (of-walk true (entries []) (omega arith)))
-        (λ y. split (from1 (w .slots) (w .first))
-        (λ z. rw (y, waits q w refl z) (of-walk (w .rightward) (ahead w (q .lefts) (q .rights) (q .labels)) short))
-        (λ z. rw (y, off q w refl z y, nowhere w (q .lefts) (q .rights) (q .labels) (w .slots) (w .first) z) refl))
+    gives-verdict = subst (GivesVerdict (extentsIn s q)) (sym (waits q (beginningOf (q .control)) refl)) (go (beginningOf (q .control)) refl)
+      where
+        go : (b : Beginning) → b ≡ beginningOf (q .control)
+            → GivesVerdict (extents b (s .listed) (q .lefts) (q .rights) (q .labels) unseen) (walkBy b (q .lefts) (q .rights) (q .labels))
+        go Empty e = of-walk true (entries []) (omega arith)
+        go Unsound e = refl
+        go (At w) e = of-walk (w .rightward) (ahead w (q .lefts) (q .rights) (q .labels)) (short w (begins-at (q .control) w e .0))
 
 -- What stands before the walk applies, or doesn't.
 unfit-none : (a b c : Bool) → unfit a b c ≡ 0 → (a ≡ true) × (b ≡ false) × (c ≡ true)
@@ -131,7 +114,8 @@ module _ (q : Tables) (s : Sheet) (enough : Bool) where
     pub judge-lost : lost ≡ extentsIn s q → refused 34 ≡ judge q s enough
     unfolding judge
     judge-lost h =
-        let t = subst (λ (m : Made Extents). Tells s byteRow bytes bytes-show [] m (contents q)) (sym h) (tells s byteRow bytes bytes-show [] q few) in
+        let t = subst (λ (m : Made Extents). GivesVerdict s byteRow bytes bytes-show [] m (contents q)) (sym h)
+        (gives-verdict s byteRow bytes bytes-show [] q few) in
         rw (ok .control, ok .form, ok .long, t)
 
     -- With a square of either kind.
@@ -139,7 +123,7 @@ module _ (q : Tables) (s : Sheet) (enough : Bool) where
         → found s r R law beyond e ≡ judge q s enough
     unfolding judge
     judge-told r R law beyond e h =
-        let t = subst (λ (m : Made Extents). Tells s r R law beyond m (contents q)) (sym h) (tells s r R law beyond q few) in
+        let t = subst (λ (m : Made Extents). GivesVerdict s r R law beyond m (contents q)) (sym h) (gives-verdict s r R law beyond q few) in
         rw (ok .control, ok .form, ok .long, t .0) (t .1 (formed s (ok .form)))
 
 -- The tests before the walk, one after the other.

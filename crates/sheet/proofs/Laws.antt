@@ -1,15 +1,10 @@
 -- The law of the square.
-use mathlib.Core.List.{List, []}
-use mathlib.Core.Path.{_≡_, sym, ap, _∙_}
+use mathlib.Core.{List.{List, []}, Path.{_≡_, sym, ap, _∙_}}
 use Prim.Native.Nat.{ℕ, suc}
 use lib.ListN.{length, getD}
-use Rattle.sheet_model.specs.Sheet.{chained}
-use Rattle.sheet_model.specs.Words.{mark, linked}
-use Rattle.sheet_model.proofs.Laws.{chained-exactly}
-use Rattle.sheet_model.proofs.ListOf.{getD-listOf}
-use Rattle.sheet_model.proofs.Words.{marked-is}
-use Rattle.sheet.specs.Squares.{squareOf}
-use Rattle.sheet.specs.Laws.{SquareIsChained}
+use Rattle.sheet_model.specs.{Sheet.chained, Words.{mark, linked}}
+use Rattle.sheet_model.proofs.{Laws.chained-exactly, ListOf.getD-listOf, Words.marked-is}
+use Rattle.sheet.specs.{Squares.squareOf, Laws.SquareIsChained}
 use Rattle.sheet.proofs.ByteRows.{bytes}
 
 pub square-is-chained : SquareIsChained

@@ -1,15 +1,10 @@
 -- What a walk has noted of each listed label: its lowest and its highest position.
-use mathlib.Core.Bool.{Bool, true, false, cond}
-use mathlib.Core.List.{List, [], _∷_}
-use mathlib.Core.Path.{_≡_, refl, sym, ap, _∙_}
+use mathlib.Core.{Bool.{Bool, true, false, cond}, List.{List, [], _∷_}, Path.{_≡_, refl, sym, ap, _∙_}}
 use Prim.Native.Nat.{ℕ, zero, suc, _≤_, _<_, min, max}
 use native.Mathlib.Omega.{arith}
-use lib.Dec.{eqb}
-use lib.ListN.{length, getD, set, replicate, length-set, getD-replicate}
-use lib.Seq.{getD-set-same, getD-set-other}
+use lib.{Dec.eqb, ListN.{length, getD, set, replicate, length-set, getD-replicate}, Seq.{getD-set-same, getD-set-other}}
 use borrow.Author.Tests.{eqb-true, eqb-false, eq-eqb, ne-eqb}
-use Rattle.model.specs.declared.Entry.{Entry}
-use Rattle.model.proofs.tests.Truth.{or-false}
+use Rattle.model.{specs.declared.Entry.Entry, proofs.tests.Truth.or-false}
 use Rattle.sheet_model.specs.Sheet.{any, twice}
 use Rattle.walk.specs.Over.{each}
 use Rattle.sheet.specs.Extents.{Extents, Noting, placeOf, lower, higher, noted, begun, firstAt, nextAt}

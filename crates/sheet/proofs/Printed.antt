@@ -1,15 +1,10 @@
 -- The smaller printer's answer and words, from what the call does.
-use mathlib.Core.Bool.{Bool, true, false, cond}
-use mathlib.Core.List.{List, _++_}
-use mathlib.Core.Path.{_≡_, refl, sym, ap, _∙_}
+use mathlib.Core.{Bool.{Bool, true, false, cond}, List.{List, _++_}, Path.{_≡_, refl, sym, ap, _∙_}}
 use Prim.Native.Nat.{ℕ, zero, suc, _+_}
-use lib.Dec.{eqb, leb}
-use lib.ListN.{length, drop}
+use lib.{Dec.{eqb, leb}, ListN.{length, drop}}
 use borrow.Author.Tests.{eq-eqb, ne-eqb}
 use Rattle.model.specs.Tables.{Tables}
-use Rattle.sheet_model.specs.declared.SheetReply.{SheetReply}
-use Rattle.sheet_model.specs.Sheet.{Sheet}
-use Rattle.sheet_model.specs.Words.{linked, wordsOf}
+use Rattle.sheet_model.specs.{declared.SheetReply.SheetReply, Sheet.Sheet, Words.{linked, wordsOf}}
 use Rattle.sheet_model.specs.Verdict.{brokenBy, judge, Printed, sheetWords}
 use Rattle.sheet.specs.Search.{inRow, inRows}
 

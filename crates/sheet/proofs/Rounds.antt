@@ -1,22 +1,16 @@
 -- The square that the rounds leave holds the chained rules: one argument for rows of bytes and rows of bits.
-use mathlib.Core.Bool.{Bool, true, false, _&&_, _||_, cond}
-use mathlib.Core.List.{List, [], _∷_, _++_}
-use mathlib.Core.Logic.{_⊎_, inl, inr}
+use mathlib.Core.{Bool.{Bool, true, false, _&&_, _||_, cond}, List.{List, [], _∷_, _++_}, Logic.{_⊎_, inl, inr}}
 use mathlib.Core.Path.{_≡_, refl, sym, ap, _∙_}
 use Prim.Native.Nat.{ℕ, zero, suc, _+_, _-_, _≤_, _<_}
-use native.Mathlib.Numerals.{add-one}
-use native.Mathlib.Omega.{arith}
-use lib.Dec.{eqb, ltb}
-use lib.ListN.{length, getD, set, length-set, List·getD-append}
+use native.Mathlib.{Numerals.add-one, Omega.arith}
+use lib.{Dec.{eqb, ltb}, ListN.{length, getD, set, length-set, List·getD-append}}
 use lib.Seq.{getD-set-same, getD-set-other, set-append-left}
 use borrow.Author.Tests.{eq-eqb, ne-eqb, ltb-true, ltb-false}
 use Rattle.model.proofs.tests.Truth.{decide-eq, or-false}
-use Rattle.sheet_model.specs.Sheet.{before, after, any, outside, ruledBefore, through}
-use Rattle.sheet_model.specs.Words.{listOf, linked}
-use Rattle.sheet.specs.Squares.{Row, sweep, joinVia, rounds, ruleMarked, rulesMarked}
+use Rattle.sheet_model.specs.{Sheet.{before, after, any, outside, ruledBefore, through}, Words.{listOf, linked}}
 use Rattle.sheet_model.proofs.ListOf.{length-listOf, getD-listOf, as-listOf, ext-listOf}
-use Rattle.sheet.proofs.Sweep.{length-sweep, sweep-at, sweep-beyond, sweep-append}
-use Rattle.sheet.proofs.Turns.{inside}
+use Rattle.sheet.specs.Squares.{Row, sweep, joinVia, rounds, ruleMarked, rulesMarked}
+use Rattle.sheet.proofs.{Sweep.{length-sweep, sweep-at, sweep-beyond, sweep-append}, Turns.inside}
 
 or-none : (a : Bool) → a || false ≡ a
 or-none true = refl

@@ -1,12 +1,9 @@
 -- The search row by row finds the first broken pair of all in order.
-use mathlib.Core.Bool.{Bool, cond}
-use mathlib.Core.List.{List, _++_, map}
-use mathlib.Core.Path.{_≡_, refl, ap, _∙_}
+use mathlib.Core.{Bool.{Bool, cond}, List.{List, _++_, map}, Path.{_≡_, refl, ap, _∙_}}
 use Prim.Native.Nat.{ℕ, zero, suc, _+_}
 use lib.ListN.{length}
 use Rattle.model.specs.declared.Entry.{Entry}
-use Rattle.sheet_model.specs.declared.SheetReply.{SheetReply}
-use Rattle.sheet_model.specs.Sheet.{Sheet, breaks}
+use Rattle.sheet_model.specs.{declared.SheetReply.SheetReply, Sheet.{Sheet, breaks}}
 use Rattle.sheet_model.specs.Verdict.{Pair, brokenBy, firstBroken, pairs, places, verdict}
 use Rattle.sheet.specs.Search.{inRow, inRows}
 

@@ -1,14 +1,10 @@
 -- A sweep over a list: what it leaves at each place.
-use mathlib.Core.List.{List, _++_}
-use mathlib.Core.Logic.{_⊎_, inl, inr}
-use mathlib.Core.Path.{_≡_, refl, sym, ap, _∙_}
+use mathlib.Core.{List.{List, _++_}, Logic.{_⊎_, inl, inr}, Path.{_≡_, refl, sym, ap, _∙_}}
 use Prim.Native.Nat.{ℕ, zero, suc, _+_, _≤_, _<_}
 use native.Mathlib.Omega.{arith}
-use lib.ListN.{length, getD, set, length-set, List·getD-append}
-use lib.Seq.{getD-set-same, getD-set-other, set-append-left}
+use lib.{ListN.{length, getD, set, length-set, List·getD-append}, Seq.{getD-set-same, getD-set-other, set-append-left}}
 use Rattle.model.proofs.tests.Truth.{decide-eq}
-use Rattle.sheet_model.specs.Words.{listOf}
-use Rattle.sheet_model.proofs.ListOf.{as-listOf, getD-listOf, length-listOf}
+use Rattle.sheet_model.{specs.Words.listOf, proofs.ListOf.{as-listOf, getD-listOf, length-listOf}}
 use Rattle.sheet.specs.Squares.{sweep}
 
 module _ {A : Type 0} where

@@ -1,22 +1,15 @@
 -- One turn of each loop: what is left to do before it and after it give the same.
-use mathlib.Core.Bool.{Bool, true, false, not, _&&_, _||_, cond}
-use mathlib.Core.List.{List, [], _∷_}
-use mathlib.Core.Path.{_≡_, refl, sym, ap, _∙_}
+use mathlib.Core.{Bool.{Bool, true, false, not, _&&_, _||_, cond}, List.{List, [], _∷_}, Path.{_≡_, refl, sym, ap, _∙_}}
 use Prim.Native.Nat.{ℕ, zero, suc, _+_, _-_, _≤_, _<_}
-use native.Mathlib.Numerals.{add-one}
-use native.Mathlib.Omega.{arith}
-use lib.Dec.{eqb, leb, ltb}
-use lib.ListN.{length, getD, set, drop, drop-of-length-le, length-drop}
+use native.Mathlib.{Numerals.add-one, Omega.arith}
+use lib.{Dec.{eqb, leb, ltb}, ListN.{length, getD, set, drop, drop-of-length-le, length-drop}}
 use lib.Seq.{drop-cons, set-out, set-getD}
 use borrow.Author.Tests.{eq-eqb, ne-eqb, leb-true, not-false, lt-ltb, le-ltb, ltb-true, ltb-false}
-use Rattle.model.specs.Sound.{from1}
-use Rattle.model.proofs.tests.Truth.{and-true, or-false, split}
-use Rattle.sheet_model.specs.declared.SheetReply.{SheetReply}
+use Rattle.model.{specs.Sound.from1, proofs.tests.Truth.{and-true, or-false, split}}
+use Rattle.sheet_model.specs.{declared.SheetReply.SheetReply, Verdict.{brokenBy, kept}}
 use Rattle.sheet_model.specs.Sheet.{Sheet, before, after, any, twice, outside, malformed}
-use Rattle.sheet.specs.Extents.{placeOf, lower, higher, firstAt, nextAt}
+use Rattle.sheet.specs.{Extents.{placeOf, lower, higher, firstAt, nextAt}, Search.{inRow, inRows}}
 use Rattle.sheet.specs.Squares.{Row, crossed, sweep, ruleMarked, rulesMarked, rounds, joinVia}
-use Rattle.sheet_model.specs.Verdict.{brokenBy, kept}
-use Rattle.sheet.specs.Search.{inRow, inRows}
 
 left : (n i : ℕ) → i < n → n - i ≡ suc (n - (i + 1))
 left n i h = omega arith
@@ -166,11 +159,11 @@ crossed-at r m low high a b = rw (back a, back b)
     back n = omega arith
 
 -- Whether a row gets another's marks.
-pub join-taken : {A : Type 0} (r : Row A) (k : ℕ) (via : A) (i : ℕ) (row : A) → r .has row k ≡ true → joinVia r k via i row ≡ r .join via row
-join-taken r k via i row h = ap (λ b. cond b (r .join via row) row) h
+pub join-marked : {A : Type 0} (r : Row A) (k : ℕ) (via : A) (i : ℕ) (row : A) → r .has row k ≡ true → joinVia r k via i row ≡ r .join via row
+join-marked r k via i row h = ap (λ b. cond b (r .join via row) row) h
 
-pub join-left : {A : Type 0} (r : Row A) (k : ℕ) (via : A) (i : ℕ) (row : A) → r .has row k ≡ false → joinVia r k via i row ≡ row
-join-left r k via i row h = ap (λ b. cond b (r .join via row) row) h
+pub join-unmarked : {A : Type 0} (r : Row A) (k : ℕ) (via : A) (i : ℕ) (row : A) → r .has row k ≡ false → joinVia r k via i row ≡ row
+join-unmarked r k via i row h = ap (λ b. cond b (r .join via row) row) h
 
 -- The tests of a sheet's form, one after the other.
 module _ (s : Sheet) where

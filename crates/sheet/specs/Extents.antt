@@ -1,13 +1,9 @@
 -- Where each listed label waits: the lowest and the highest of its positions, as one walk finds them.
-use mathlib.Core.Bool.{Bool, true, false, cond}
-use mathlib.Core.List.{List, [], _∷_}
+use mathlib.Core.{Bool.{Bool, true, false, cond}, List.{List, [], _∷_}}
 use Prim.Native.Nat.{ℕ, suc, _+_, _-_}
-use lib.Dec.{ltb, eqb}
-use lib.ListN.{getD, set}
-use Rattle.model.specs.declared.Entry.{Entry}
-use Rattle.model.specs.Walk.{Walk, entries}
-use Rattle.walk.specs.declared.Way.{Way}
-use Rattle.walk.specs.Ways.{noneOn, ahead}
+use lib.{Dec.{ltb, eqb}, ListN.{getD, set}}
+use Rattle.model.specs.{declared.Entry.Entry, Walk.Walk}
+use Rattle.walk.specs.{declared.Beginning.{Beginning, the-variants.{At, Empty, Unsound}}, Ways.ahead}
 use Rattle.walk.specs.Over.{Made, made, lost, over}
 
 -- Each listed label's lowest and highest position, 1 to 1,023, and 1,024 and 0 where it doesn't wait. Positions rise to the right, and only their order
@@ -61,9 +57,11 @@ ended lost = lost
 abbrev pub gathered : Bool → List ℕ → Extents → Walk → Made Extents
 gathered up listed e v = ended (over (noted up listed) (begun up e) v)
 
--- Of the labels waiting.
-unfoldable pub extents : Way → List ℕ → List ℕ → List ℕ → List ℕ → Extents → Made Extents
-extents w listed lefts rights labels e = gathered (w .rightward) listed e (cond (noneOn w) (entries []) (ahead w lefts rights labels))
+-- Of the labels waiting, by where their walk begins.
+unfoldable pub extents : Beginning → List ℕ → List ℕ → List ℕ → List ℕ → Extents → Made Extents
+extents Empty listed lefts rights labels e = made e
+extents Unsound listed lefts rights labels e = lost
+extents (At w) listed lefts rights labels e = gathered (w .rightward) listed e (ahead w lefts rights labels)
 
 -- As the code tells it; of a broken walk nothing counts.
 abbrev pub told : Bool → List ℕ → List ℕ → Made Extents

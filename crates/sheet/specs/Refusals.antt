@@ -1,6 +1,5 @@
 -- What stands before the walk: 34 for control and Anchor, 46, 12.
-use mathlib.Core.Bool.{Bool, not}
-use mathlib.Core.List.{[], _∷_}
+use mathlib.Core.{Bool.{Bool, not}, List.{[], _∷_}}
 use Prim.Native.Nat.{ℕ}
 use Rattle.model.specs.Refusals.{rule, first}
 

@@ -1,8 +1,7 @@
 -- The first broken pair as the code searches for it: row by row.
 use mathlib.Core.Bool.{Bool, cond}
 use Prim.Native.Nat.{ℕ, zero, suc, _+_}
-use Rattle.sheet_model.specs.declared.SheetReply.{SheetReply}
-use Rattle.sheet_model.specs.Verdict.{brokenBy, kept}
+use Rattle.sheet_model.specs.{declared.SheetReply.SheetReply, Verdict.{brokenBy, kept}}
 
 -- The first broken pair with first place a and one of n second places from b on; else another answer.
 unfoldable pub inRow : (ℕ → ℕ → Bool) → ℕ → ℕ → ℕ → SheetReply → SheetReply

@@ -1,12 +1,8 @@
 -- The chained rules as a square of marks, and the loops that fill it. (Document 02, #111 and #112.)
-use mathlib.Core.Bool.{Bool, _&&_, not, cond}
-use mathlib.Core.List.{List, [], _∷_}
+use mathlib.Core.{Bool.{Bool, _&&_, not, cond}, List.{List, [], _∷_}}
 use Prim.Native.Nat.{ℕ, zero, suc, _+_, _-_, _/_, _%_, _^_}
-use lib.Bits.{bitOr}
-use lib.Dec.{eqb, leb}
-use lib.ListN.{getD, set}
-use Rattle.sheet_model.specs.Sheet.{before, after}
-use Rattle.sheet_model.specs.Words.{listOf, mark}
+use lib.{Bits.bitOr, Dec.{eqb, leb}, ListN.{getD, set}}
+use Rattle.sheet_model.specs.{Sheet.{before, after}, Words.{listOf, mark}}
 
 -- A square of 32 by 32 marks, one byte each; row a, column b belong to places a + 1, b + 1.
 unfoldable pub squareOf : (ℕ → ℕ → Bool) → List (List ℕ)

@@ -1,7 +1,6 @@
 // The order sheet for C and Rust, with control lent as C lends it.
 use sheet_model::SheetReply;
-ghost use mathlib.Core.Path.{_≡_};
-ghost use mathlib.Core.List.{List};
+ghost use mathlib.Core.{Path._≡_, List.List};
 ghost use Prim.Native.Nat.{ℕ};
 ghost use Rattle.model.specs.Tables.{tablesOf};
 ghost use Rattle.rows.specs.Rows.{controlOf};

@@ -1,13 +1,14 @@
 // Where the listed labels wait, by one walk of the queue.
 use crate::form::place_from;
 use model::Control;
+use walk::Beginning;
+use walk::Led;
 use walk::Way;
-ghost use mathlib.Core.Path.{_≡_};
-ghost use mathlib.Core.Bool.{true};
+ghost use mathlib.Core.{Path._≡_, Bool.true};
 ghost use Prim.Native.Nat.{_≤_};
 ghost use lib.ListN.{getD, set};
 ghost use Rattle.model.specs.Sound.{from1};
-ghost use Rattle.walk.specs.Ways.{wayOf, ahead};
+ghost use Rattle.walk.specs.Ways.{beginningOf, ahead};
 ghost use Rattle.sheet.specs.Extents.{lower, higher, firstAt, nextAt, told, gathered, extents};
 
 /// Puts a position at k if it is lower than the one there.
@@ -77,12 +78,17 @@ fn gather(
         let k = place_from(listed, 0, table::label_at(labels, x));
         lower(low, k, at);
         raise(high, k, at);
-        if x == w.last {
-            return true;
-        }
-        x = walk::leads(w, lefts, rights, x);
-        if x == 0 {
-            return false;
+        let next = walk::leads(w, lefts, rights, x);
+        match next {
+            Led::Last => {
+                return true;
+            }
+            Led::Broken => {
+                return false;
+            }
+            Led::Slot(y) => {
+                x = y;
+            }
         }
         at = next_at(w.rightward, at);
         left -= 1;
@@ -102,13 +108,14 @@ pub fn extents(
 ) -> bool
     requires { ⌜ c .slots ≤ 1023 ⌝ }
     ensures { λ r.
-        ⌜ told r (now (low .exit)) (now (high .exit)) ≡ extents (wayOf c)
+        ⌜ told r (now (low .exit)) (now (high .exit)) ≡ extents (beginningOf c)
         (now (listed .entry)) (now (lefts .entry)) (now (rights .entry)) (now (labels .entry))
         (record { low = now (low .entry); high = now (high .entry) }) ⌝ }
 {
-    let w = walk::begin(c);
-    if sound::from1(w.slots, w.first) {
-        return gather(w, lefts, rights, labels, listed, low, high);
+    let start = walk::begin(c);
+    match start {
+        Beginning::Empty => true,
+        Beginning::Unsound => false,
+        Beginning::At(w) => gather(w, lefts, rights, labels, listed, low, high),
     }
-    walk::none_on(w)
 }

@@ -2,13 +2,10 @@
 use model::Control;
 use sheet_model::SheetReply;
 use sound::Lengths;
-ghost use mathlib.Core.Path.{_≡_};
-ghost use mathlib.Core.List.{List};
+ghost use mathlib.Core.{Path._≡_, List.List};
 ghost use Prim.Native.Nat.{ℕ};
-ghost use Rattle.model.specs.Tables.{tablesOf};
-ghost use Rattle.model.specs.Sound.{controlSound};
-ghost use Rattle.sheet_model.specs.Sheet.{malformed};
-ghost use Rattle.sheet_model.specs.Verdict.{refused, sheet, Printed, sheetWords};
+ghost use Rattle.model.specs.{Tables.tablesOf, Sound.controlSound};
+ghost use Rattle.sheet_model.specs.{Sheet.malformed, Verdict.{refused, sheet, Printed, sheetWords}};
 ghost use Rattle.sheet.specs.Refusals.{unfit};
 
 pub mod border;

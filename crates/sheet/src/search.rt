@@ -3,8 +3,7 @@ use sheet_model::SheetReply;
 ghost use mathlib.Core.Path.{_≡_};
 ghost use Prim.Native.Nat.{_≤_};
 ghost use lib.ListN.{length};
-ghost use Rattle.sheet.specs.Search.{inRows};
-ghost use Rattle.sheet.specs.Squares.{byteRow, crossed};
+ghost use Rattle.sheet.specs.{Search.inRows, Squares.{byteRow, crossed}};
 
 /// The first broken pair of n places, by first then second place: marked in the square, with the
 /// second's lowest position at or below the first's highest.

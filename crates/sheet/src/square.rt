@@ -3,13 +3,10 @@ use crate::form::after;
 use crate::form::before;
 use crate::search;
 use sheet_model::SheetReply;
-ghost use mathlib.Core.Path.{_≡_};
-ghost use mathlib.Core.Bool.{false};
+ghost use mathlib.Core.{Path._≡_, Bool.false};
 ghost use Prim.Native.Nat.{_≤_};
-ghost use Rattle.sheet_model.specs.Sheet.{any, outside};
-ghost use Rattle.sheet_model.specs.Words.{linked};
-ghost use Rattle.sheet.specs.Squares.{squareOf, byteRow, joinRow, crossed};
-ghost use Rattle.sheet.specs.Search.{inRows};
+ghost use Rattle.sheet_model.specs.{Sheet.{any, outside}, Words.linked};
+ghost use Rattle.sheet.specs.{Squares.{squareOf, byteRow, joinRow, crossed}, Search.inRows};
 
 /// A row with the marks of another.
 fn join_row(via: [u8; 32], row: [u8; 32]) -> [u8; 32]

@@ -2,15 +2,11 @@
 use crate::form::after;
 use crate::form::before;
 use sheet_model::SheetReply;
-ghost use mathlib.Core.Path.{_≡_};
-ghost use mathlib.Core.Bool.{false};
-ghost use mathlib.Core.List.{_++_};
+ghost use mathlib.Core.{Path._≡_, Bool.false, List._++_};
 ghost use Prim.Native.Nat.{_≤_};
 ghost use lib.ListN.{length, drop};
-ghost use Rattle.sheet_model.specs.Sheet.{any, outside};
-ghost use Rattle.sheet_model.specs.Words.{linked, wordsOf};
-ghost use Rattle.sheet.specs.Squares.{bitRow, rulesMarked, rounds, crossed};
-ghost use Rattle.sheet.specs.Search.{inRows};
+ghost use Rattle.sheet_model.specs.{Sheet.{any, outside}, Words.{linked, wordsOf}};
+ghost use Rattle.sheet.specs.{Squares.{bitRow, rulesMarked, rounds, crossed}, Search.inRows};
 
 /// Sets the marks of the rules themselves.
 fn mark(words: &mut [u32], rules: &[u32], n: usize)

@@ -1,15 +1,12 @@
 -- The test `through` and the relation `Chained` agree where every rule points into the list.
-use mathlib.Core.Bool.{_&&_, true, false}
-use mathlib.Core.List.{List, [], _∷_}
-use mathlib.Core.Logic.{_⊎_, inl, inr}
-use mathlib.Core.Path.{_≡_, refl, subst}
+use mathlib.Core.{Bool.{_&&_, true, false}, List.{List, [], _∷_}, Logic.{_⊎_, inl, inr}, Path.{_≡_, refl, subst}}
 use Prim.Native.Nat.{ℕ, zero, suc, _≤_}
 use native.Mathlib.Omega.{arith}
 use lib.Dec.{eqb}
 use borrow.Author.Tests.{eqb-true, leb-true, not-false}
 use Rattle.model.specs.Sound.{from1}
-use Rattle.sheet_model.specs.Sheet.{Chained, ruled, joined, any, before, after, outside, through}
 use Rattle.model.proofs.tests.Truth.{and-true, and-of, or-cases, or-false, or-first, or-second, decide-eq, not-both}
+use Rattle.sheet_model.specs.Sheet.{Chained, ruled, joined, any, before, after, outside, through}
 
 module _ (rules : List ℕ) where
   abbrev T : ℕ → ℕ → ℕ → Type 0

@@ -1,6 +1,5 @@
 -- What the form of a sheet gives.
-use mathlib.Core.Bool.{false, _||_}
-use mathlib.Core.Path.{_≡_}
+use mathlib.Core.{Bool.{false, _||_}, Path._≡_}
 use Prim.Native.Nat.{_≤_}
 use lib.{Dec.ltb, ListN.length}
 use borrow.Author.Tests.{ltb-false}

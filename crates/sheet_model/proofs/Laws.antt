@@ -1,33 +1,19 @@
 -- The laws of the sheets.
-use mathlib.Core.Bool.{Bool, true, false, cond}
-use mathlib.Core.List.{List, _++_}
-use mathlib.Core.Path.{_≡_, refl, sym, ap, subst, _∙_}
+use mathlib.Core.{Bool.{Bool, true, false, cond}, List.{List, _++_}, Path.{_≡_, refl, sym, ap, subst, _∙_}}
 use Prim.Native.Nat.{ℕ, suc, _/_, _%_, _^_, _<_}
 use native.Mathlib.Omega.{arith}
-use lib.Dec.{eqb, leb}
-use lib.ListN.{length, getD, drop, List·getD-append}
+use lib.{Dec.{eqb, leb}, ListN.{length, getD, drop, List·getD-append}}
 use borrow.Author.Tests.{le-leb, eq-eqb, ne-eqb, eqb-true}
-use Rattle.model.specs.declared.Entry.{Entry}
-use Rattle.model.specs.Tables.{Queue, Tables, isPooled}
-use Rattle.model.specs.Standing.{Standing}
-use Rattle.model.specs.Walk.{contents, met}
-use Rattle.model.specs.Sound.{rowTests, rowsFit}
-use Rattle.model.specs.Refusals.{first, recordsFit}
-use Rattle.model.specs.Calls.{openAs}
+use Rattle.model.specs.{declared.Entry.Entry, Tables.{Queue, Tables, isPooled}, Standing.Standing, Walk.{contents, met}}
+use Rattle.model.specs.{Sound.{rowTests, rowsFit}, Refusals.{first, recordsFit}, Calls.openAs}
 use Rattle.model.specs.History.{final, ledger, run}
-use Rattle.model.proofs.tests.Truth.{split, and-true}
-use Rattle.model.proofs.tests.Rules.{cleared, tests}
-use Rattle.model.proofs.Standing.{standing}
-use Rattle.sheet_model.specs.Sheet.{Sheet, malformed, chained}
-use Rattle.sheet_model.specs.Words.{listOf, bitsOf, linked, mark, wordsOf}
-use Rattle.sheet_model.specs.Verdict.{refused, verdict, judge, sheet, sheetRules, sheetWords}
-use Rattle.sheet_model.specs.Laws.{ChainedExactly, StandingSheets, SheetsOfQueues, SameAnswer, RefusalKeeps, BitsAreChained, KeptExactly, SheetRight}
-use Rattle.sheet_model.specs.Pairs.{Rightly}
-use Rattle.sheet_model.proofs.Formed.{formed}
-use Rattle.sheet_model.proofs.Words.{bit-at, marked-is}
-use Rattle.sheet_model.proofs.Chained.{chained-of, chained-in}
-use Rattle.sheet_model.proofs.Pairs.{kept-told, none-told, verdict-right}
-use Rattle.sheet_model.proofs.ListOf.{length-listOf, getD-listOf}
+use Rattle.model.proofs.{tests.{Truth.{split, and-true}, Rules.{cleared, tests}}, Standing.standing}
+use Rattle.sheet_model.specs.{Sheet.{Sheet, malformed, chained}, Words.{listOf, bitsOf, linked, mark, wordsOf}}
+use Rattle.sheet_model.specs.{Verdict.{refused, verdict, judge, sheet, sheetRules, sheetWords}, Pairs.Rightly}
+use Rattle.sheet_model.specs.Laws.{ChainedExactly, StandingSheets, SheetsOfQueues, SameAnswer, RefusalKeeps}
+use Rattle.sheet_model.specs.Laws.{BitsAreChained, KeptExactly, SheetRight}
+use Rattle.sheet_model.proofs.{Formed.formed, Words.{bit-at, marked-is}, Chained.{chained-of, chained-in}}
+use Rattle.sheet_model.proofs.{Pairs.{kept-told, none-told, verdict-right}, ListOf.{length-listOf, getD-listOf}}
 
 pub chained-exactly : ChainedExactly
 unfolding chained

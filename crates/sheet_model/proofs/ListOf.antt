@@ -1,10 +1,8 @@
 -- Lists given by their elements.
-use mathlib.Core.List.{List, _∷_}
-use mathlib.Core.Path.{_≡_, refl, sym, ap, _∙_}
+use mathlib.Core.{List.{List, _∷_}, Path.{_≡_, refl, sym, ap, _∙_}}
 use Prim.Native.Nat.{ℕ, zero, suc, _<_}
 use native.Mathlib.Omega.{arith}
-use lib.ListN.{length, getD}
-use lib.Seq.{ext-getD}
+use lib.{ListN.{length, getD}, Seq.ext-getD}
 use Rattle.sheet_model.specs.Words.{listOf}
 
 module _ {A : Type 0} where

@@ -1,22 +1,17 @@
 -- The test of a pair is what the document calls broken, and the verdict is kept or the first such pair.
-use mathlib.Core.Bool.{Bool, true, false, _&&_, cond}
-use mathlib.Core.List.{List, [], _∷_, _++_, map}
-use mathlib.Core.Logic.{_⊎_, inl, inr}
+use mathlib.Core.{Bool.{Bool, true, false, _&&_, cond}, List.{List, [], _∷_, _++_, map}, Logic.{_⊎_, inl, inr}}
 use mathlib.Core.Path.{_≡_, ap, refl, sym, subst}
 use Prim.Native.Nat.{ℕ, zero, suc, _+_, _≤_, _<_}
 use native.Mathlib.Omega.{arith}
 use lib.{Dec.eqb, ListN.length}
 use borrow.Author.Tests.{eqb-true, eq-eqb}
-use Rattle.model.specs.declared.Entry.{Entry}
-use Rattle.model.specs.Walk.{CopyAt}
-use Rattle.model.proofs.tests.Truth.{and-of, and-true, by-test, decide-eq, not-both, or-cases, or-first, or-second, split}
-use Rattle.sheet_model.specs.declared.SheetReply.{SheetReply}
+use Rattle.model.{specs.{declared.Entry.Entry, Walk.CopyAt}, proofs.tests.Truth.split}
+use Rattle.model.proofs.tests.Truth.{and-of, and-true, by-test, decide-eq, not-both, or-cases, or-first, or-second}
+use Rattle.sheet_model.specs.{declared.SheetReply.SheetReply, Pairs.firstPair, Laws.VerdictRight}
 use Rattle.sheet_model.specs.Sheet.{Sheet, Chained, breaks, chained, labelAt, leftOf, malformed, waits}
 use Rattle.sheet_model.specs.Verdict.{Pair, brokenBy, firstBroken, kept, pairs, places, verdict}
-use Rattle.sheet_model.specs.Pairs.{Broken, Copy, Earlier, LeftCopy, NoneBroken, Rightly, crossed, itself, keeps, tellsPair}
-use Rattle.sheet_model.specs.Laws.{VerdictRight}
-use Rattle.sheet_model.proofs.Formed.{formed}
-use Rattle.sheet_model.proofs.Chained.{chained-in, chained-of, chained-within}
+use Rattle.sheet_model.specs.Pairs.{Broken, Copy, Earlier, LeftCopy, NoneBroken, Rightly, crossed, itself, keeps}
+use Rattle.sheet_model.proofs.{Formed.formed, Chained.{chained-in, chained-of, chained-within}}
 
 -- One entry further left.
 further : (x : ℕ) (e : Entry) (l : List Entry) (i : ℕ) → CopyAt x l i → CopyAt x (e ∷ l) (suc i)
@@ -155,7 +150,7 @@ module _ (p : ℕ → ℕ → Bool) where
 
 module _ (s : Sheet) (l : List Entry) (form : malformed s ≡ false) where
   rightly : (r : SheetReply) → InRows (breaks s l) (length (s .listed)) 1 (length (s .listed)) r → Rightly s l r
-  rightly _ (found a b g h i j k f) = tellsPair a b (broken-of s l a b k) (λ c d o x.
+  rightly _ (found a b g h i j k f) = firstPair a b (broken-of s l a b k) (λ c d o x.
       let w = within s l form c d x in
       not-both (breaks-in s l form c d x) (f c d (w .0 .0) (w .1 .0) (w .1 .1) o))
   rightly _ (none f) = keeps (λ c d x.
@@ -166,11 +161,11 @@ module _ (s : Sheet) (l : List Entry) (form : malformed s ≡ false) where
   -- Place 0 is none of the sheet's, so kept tells no pair.
   pub none-told : (r : SheetReply) → Rightly s l r → r ≡ kept → NoneBroken s l
   none-told _ (keeps f) e = f
-  none-told _ (tellsPair a b k f) e = absurd (let z : a ≡ 0 = ap (λ (r : SheetReply). r .first) e in let w = within s l form a b k .0 .0 in omega arith)
+  none-told _ (firstPair a b k f) e = absurd (let z : a ≡ 0 = ap (λ (r : SheetReply). r .first) e in let w = within s l form a b k .0 .0 in omega arith)
 
   pub kept-told : (r : SheetReply) → Rightly s l r → NoneBroken s l → r ≡ kept
   kept-told _ (keeps f) h = refl
-  kept-told _ (tellsPair a b k f) h = absurd (h a b k)
+  kept-told _ (firstPair a b k f) h = absurd (h a b k)
 
 pub verdict-right : VerdictRight
 unfolding verdict

@@ -1,9 +1,7 @@
 -- The bits of a word are the marks that it was made of.
-use mathlib.Core.Bool.{Bool, true, false}
-use mathlib.Core.Path.{_≡_, refl, sym, ap, _∙_}
+use mathlib.Core.{Bool.{Bool, true, false}, Path.{_≡_, refl, sym, ap, _∙_}}
 use Prim.Native.Nat.{ℕ, zero, suc, _+_, _*_, _/_, _%_, _^_, _<_}
-use native.Mathlib.Nat.{div-div-eq-div-mul, pow-succ'}
-use native.Mathlib.Omega.{arith}
+use native.Mathlib.{Nat.{div-div-eq-div-mul, pow-succ'}, Omega.arith}
 use Rattle.sheet_model.specs.Words.{mark, bitsOf}
 
 small : (t : Bool) → mark t < 2

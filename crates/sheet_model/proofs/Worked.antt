@@ -1,13 +1,8 @@
 -- Worked sheets, by computation.
-use mathlib.Core.Bool.{Bool, true, false}
-use mathlib.Core.List.{List, [], _∷_}
-use mathlib.Core.Path.{_≡_, refl}
+use mathlib.Core.{Bool.{Bool, true, false}, List.{List, [], _∷_}, Path.{_≡_, refl}}
 use Prim.Native.Nat.{ℕ, _+_, _*_, _^_}
-use Rattle.model.specs.declared.Entry.{Entry}
-use Rattle.model.specs.Tables.{Tables}
-use Rattle.model.proofs.laws.Order.{numbers}
-use Rattle.sheet_model.specs.declared.SheetReply.{SheetReply}
-use Rattle.sheet_model.specs.Sheet.{Sheet, through, chained, breaks, malformed}
+use Rattle.model.{specs.{declared.Entry.Entry, Tables.Tables}, proofs.laws.Order.numbers}
+use Rattle.sheet_model.specs.{declared.SheetReply.SheetReply, Sheet.{Sheet, through, chained, breaks, malformed}}
 use Rattle.sheet_model.specs.Verdict.{brokenBy, kept, refused, sheetRules, verdict, firstBroken, pairs, places}
 
 -- A rule on two places, labels 10, 20 and 30 listed, and labels waiting in slots that don't matter.

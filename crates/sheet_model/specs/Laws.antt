@@ -1,20 +1,11 @@
 -- What is promised of the sheets, beyond what each call answers. (Document 02, #111 and #112.)
-use mathlib.Core.Path.{_≡_}
-use mathlib.Core.Bool.{true, false, cond}
-use mathlib.Core.List.{List}
-use mathlib.Core.Logic.{_≢_}
+use mathlib.Core.{Path._≡_, Bool.{true, false, cond}, List.List, Logic._≢_}
 use Prim.Native.Nat.{ℕ, suc, _/_, _%_, _^_, _≤_, _<_}
-use lib.Dec.{leb}
-use lib.ListN.{length, getD}
-use Rattle.model.specs.declared.Entry.{Entry}
-use Rattle.model.specs.Tables.{Tables, Queue}
-use Rattle.model.specs.Standing.{Standing}
-use Rattle.model.specs.Walk.{contents, met}
+use lib.{Dec.leb, ListN.{length, getD}}
+use Rattle.model.specs.{declared.Entry.Entry, Tables.{Tables, Queue}, Standing.Standing, Walk.{contents, met}}
 use Rattle.model.specs.History.{AfterOpening, final, ledger, run}
-use Rattle.sheet_model.specs.declared.SheetReply.{SheetReply}
-use Rattle.sheet_model.specs.Sheet.{Sheet, Chained, malformed, chained}
-use Rattle.sheet_model.specs.Verdict.{kept, refused, verdict, sheet, sheetWords}
-use Rattle.sheet_model.specs.Pairs.{NoneBroken, Rightly}
+use Rattle.sheet_model.specs.{declared.SheetReply.SheetReply, Sheet.{Sheet, Chained, malformed, chained}}
+use Rattle.sheet_model.specs.{Verdict.{kept, refused, verdict, sheet, sheetWords}, Pairs.{NoneBroken, Rightly}}
 
 -- The test is passed exactly where place a is chained before place b.
 pub record ChainedWhere (s : Sheet) (a b : ℕ) : Type 0 where
@@ -47,14 +38,14 @@ abbrev pub RefusalKeeps : Type 0
 RefusalKeeps = (q : Tables) (s : Sheet) (words : List ℕ) → sheetWords q s words .reply .code ≢ 0 → sheetWords q s words .words ≡ words
 
 -- A mark is 1 exactly when place a is chained before place b.
-pub record MarkTells (m : ℕ) (rules : List ℕ) (a b : ℕ) : Type 0 where
+pub record MarkIsChained (m : ℕ) (rules : List ℕ) (a b : ℕ) : Type 0 where
   pub only : m ≡ 1 → Chained rules a b
   pub all : Chained rules a b → m ≡ 1
 
 -- After kept or a broken pair, bit b of word a is set exactly when place a + 1 is chained before place b + 1.
 abbrev pub BitsAreChained : Type 0
 BitsAreChained = (q : Tables) (s : Sheet) (words : List ℕ) → sheetWords q s words .reply .code ≡ 0 → (a b : ℕ) → a < 32 → b < 32
-    → MarkTells (getD (sheetWords q s words .words) a 0 / 2 ^ b % 2) (s .rules) (suc a) (suc b)
+    → MarkIsChained (getD (sheetWords q s words .words) a 0 / 2 ^ b % 2) (s .rules) (suc a) (suc b)
 
 -- The answer is right: of a well-formed sheet on any entries, and so where a call is not refused; and it is kept exactly where no pair is broken.
 abbrev pub VerdictRight : Type 0

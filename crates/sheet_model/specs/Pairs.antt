@@ -1,11 +1,8 @@
 -- Which pairs of a sheet are broken, and which is told, in the document's words. (Document 02, #111.)
-use mathlib.Core.{Path._≡_, Logic._⊎_}
-use mathlib.Core.List.{List}
+use mathlib.Core.{Path._≡_, Logic._⊎_, List.List}
 use Prim.Native.Nat.{ℕ, _<_}
-use Rattle.model.specs.declared.Entry.{Entry}
-use Rattle.model.specs.Walk.{CopyAt}
-use Rattle.sheet_model.specs.declared.SheetReply.{SheetReply}
-use Rattle.sheet_model.specs.Sheet.{Sheet, Chained, labelAt}
+use Rattle.model.specs.{declared.Entry.Entry, Walk.CopyAt}
+use Rattle.sheet_model.specs.{declared.SheetReply.SheetReply, Sheet.{Sheet, Chained, labelAt}}
 use Rattle.sheet_model.specs.Verdict.{brokenBy, kept}
 
 -- A copy of label x waits.
@@ -36,4 +33,4 @@ Earlier a b c d = (a < c) ⊎ ((a ≡ c) × (b < d))
 -- Kept, where no pair is broken; else a broken pair before which none is.
 pub data Rightly (s : Sheet) (l : List Entry) : SheetReply → Type 0 where
   keeps : NoneBroken s l → Rightly s l kept
-  tellsPair : (a b : ℕ) → Broken s l a b → ((c d : ℕ) → Earlier c d a b → Broken s l c d → ⊥) → Rightly s l (brokenBy a b)
+  firstPair : (a b : ℕ) → Broken s l a b → ((c d : ℕ) → Earlier c d a b → Broken s l c d → ⊥) → Rightly s l (brokenBy a b)

@@ -1,12 +1,8 @@
 -- The order sheet: its form, its chained rules, and what breaks it. (Document 02, #111.)
-use mathlib.Core.Path.{_≡_}
-use mathlib.Core.Bool.{Bool, true, false, _&&_, _||_, not, cond}
-use mathlib.Core.List.{List, [], _∷_}
+use mathlib.Core.{Path._≡_, Bool.{Bool, true, false, _&&_, _||_, not, cond}, List.{List, [], _∷_}}
 use Prim.Native.Nat.{ℕ, zero, suc, _/_, _%_, _^_}
-use lib.Dec.{ltb, eqb}
-use lib.ListN.{length, getD}
-use Rattle.model.specs.declared.Entry.{Entry}
-use Rattle.model.specs.Sound.{from1}
+use lib.{Dec.{ltb, eqb}, ListN.{length, getD}}
+use Rattle.model.specs.{declared.Entry.Entry, Sound.from1}
 
 -- Labels listed, and rules on their places from 1.
 pub record Sheet : Type 0 where

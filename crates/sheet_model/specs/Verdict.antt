@@ -1,16 +1,10 @@
 -- What a sheet is answered. (Document 02, #111 and #112.)
-use mathlib.Core.Bool.{Bool, true, false, _&&_, not, cond}
-use mathlib.Core.List.{List, [], _∷_, _++_, map}
+use mathlib.Core.{Bool.{Bool, true, false, _&&_, not, cond}, List.{List, [], _∷_, _++_, map}}
 use Prim.Native.Nat.{ℕ, zero, suc, _+_}
-use lib.Dec.{eqb, leb}
-use lib.ListN.{length, drop}
-use Rattle.model.specs.declared.Entry.{Entry}
-use Rattle.model.specs.Tables.{Tables}
-use Rattle.model.specs.Sound.{controlSound, rowsFit}
-use Rattle.model.specs.Refusals.{Rule, rule, first}
-use Rattle.model.specs.Walk.{contents, isBroken, met}
-use Rattle.sheet_model.specs.declared.SheetReply.{SheetReply}
-use Rattle.sheet_model.specs.Words.{linked, wordsOf}
+use lib.{Dec.{eqb, leb}, ListN.{length, drop}}
+use Rattle.model.specs.{declared.Entry.Entry, Tables.Tables, Sound.{controlSound, rowsFit}}
+use Rattle.model.specs.{Refusals.{Rule, rule, first}, Walk.{contents, isBroken, met}}
+use Rattle.sheet_model.specs.{declared.SheetReply.SheetReply, Words.{linked, wordsOf}}
 use Rattle.sheet_model.specs.Sheet.{Sheet, malformed, breaks}
 
 -- What is answered: refused with a number, kept, or broken at a pair of places.

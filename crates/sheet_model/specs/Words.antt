@@ -1,6 +1,5 @@
 -- The words of a sheet on a smaller printer: bit b of word a is set where place a + 1 is chained before place b + 1. (Document 02, #112.)
-use mathlib.Core.Bool.{Bool, cond}
-use mathlib.Core.List.{List, [], _∷_}
+use mathlib.Core.{Bool.{Bool, cond}, List.{List, [], _∷_}}
 use Prim.Native.Nat.{ℕ, zero, suc, _+_, _*_}
 use Rattle.sheet_model.specs.Sheet.{through}
 

@@ -1,32 +1,17 @@
 -- What the tests and the copies of a saving and of a return come to.
-use mathlib.Core.Bool.{Bool, true, false, _&&_, cond}
-use mathlib.Core.List.{List}
-use mathlib.Core.Logic.{_≢_}
-use mathlib.Core.Path.{_≡_, _∙_, ap, refl, subst, sym}
+use mathlib.Core.{Bool.{Bool, true, false, _&&_, cond}, List.List, Logic._≢_, Path.{_≡_, _∙_, ap, refl, subst, sym}}
 use Prim.Native.Nat.{ℕ, suc, _+_, _/_, _<_, _≤_}
-use native.Mathlib.Numerals.{add-one}
-use native.Mathlib.Omega.{arith}
-use lib.Dec.{leb}
-use lib.ListN.{length, set}
+use native.Mathlib.{Numerals.add-one, Omega.arith}
+use lib.{Dec.leb, ListN.{length, set}}
 use borrow.Author.Tests.{leb-true, ne-eqb, not-false}
-use Rattle.model.specs.declared.Control.{Control}
-use Rattle.model.specs.Tables.{Queue, isPooled, tablesOf}
-use Rattle.model.specs.Sound.{rowsFit}
-use Rattle.model.specs.Refusals.{first}
-use Rattle.model.proofs.bridge.Facts.{control-fine}
-use Rattle.model.proofs.tests.Rules.{cleared}
-use Rattle.model.proofs.tests.Truth.{and-true}
-use Rattle.sound.specs.declared.Lengths.{Lengths}
-use Rattle.sound.specs.Lengths.{lengthsFit}
-use Rattle.rows.specs.Rows.{controlOf, queueIn, recordsOf, uppersOf}
-use Rattle.rows.proofs.Rows.{length-records, length-uppers}
-use Rattle.shelf_model.specs.Shelves.{Shelves, bothHold, copied, holds, over, part, returnRefusal}
-use Rattle.shelf_model.specs.Shelves.{returnRules, returned, saveRefusal, saveRules, saved, shelfAt, withPart}
-use Rattle.shelf_model.proofs.Parts.{part-length}
-use Rattle.shelf_model.proofs.Copied.{Long, long}
-use Rattle.shelf.specs.Pasting.{putBack, putOn}
-use Rattle.shelf_model.specs.Shelves.{returnTests, saveTests}
-use Rattle.shelf.specs.Lengths.{bothFit, returnNumber, saveNumber}
+use Rattle.model.specs.{declared.Control.Control, Tables.{Queue, isPooled, tablesOf}, Sound.rowsFit, Refusals.first}
+use Rattle.model.proofs.{bridge.Facts.control-fine, tests.{Rules.cleared, Truth.and-true}}
+use Rattle.sound.specs.{declared.Lengths.Lengths, Lengths.lengthsFit}
+use Rattle.rows.{specs.Rows.{controlOf, queueIn, recordsOf, uppersOf}, proofs.Rows.{length-records, length-uppers}}
+use Rattle.shelf_model.specs.Shelves.{Shelves, bothHold, copied, holds, over, part, returnRefusal, returnRules, saved}
+use Rattle.shelf_model.specs.Shelves.{returned, saveRefusal, saveRules, shelfAt, withPart, returnTests, saveTests}
+use Rattle.shelf_model.proofs.{Parts.part-length, Copied.{Long, long}}
+use Rattle.shelf.specs.{Pasting.{putBack, putOn}, Lengths.{bothFit, returnNumber, saveNumber}}
 use Rattle.shelf.specs.Lent.{Returned, Saved, controlsOf, returning, saving, shelvesIn}
 use Rattle.shelf.proofs.Pasting.{back-is, put-is}
 use Rattle.shelf.proofs.Controls.{back-records, back-uppers, length-controls, put-records, put-uppers}

@@ -1,14 +1,11 @@
 -- Controls as rows of words: one read, one written; records and upper halves entry by entry.
-use mathlib.Core.List.{List, [], _∷_, map}
-use mathlib.Core.Path.{_≡_, _∙_, ap, refl, sym}
+use mathlib.Core.{List.{List, [], _∷_, map}, Path.{_≡_, _∙_, ap, refl, sym}}
 use Prim.Native.Nat.{ℕ, zero, suc}
 use lib.ListN.{getD, length, set}
-use Rattle.model.specs.declared.Control.{Control}
-use Rattle.model.specs.declared.Record.{Record}
+use Rattle.model.specs.declared.{Control.Control, Record.Record}
 use Rattle.rows.specs.Rows.{controlOf, recordOf, recordsOf, upperOf, uppersOf}
 use Rattle.shelf_model.specs.Shelves.{unfilled}
-use Rattle.shelf.specs.Pasting.{putBack, putOn}
-use Rattle.shelf.specs.Lent.{controlsOf}
+use Rattle.shelf.specs.{Pasting.{putBack, putOn}, Lent.controlsOf}
 use Rattle.shelf.proofs.Pasting.{map-back, map-put}
 
 pub length-controls : (rows : List (List ℕ)) → length (controlsOf rows) ≡ length rows

@@ -1,19 +1,14 @@
 -- A table into which the first i of k entries are copied, and one entry more; and what that makes of shelves.
-use mathlib.Core.List.{List, [], _∷_, _++_, append-assoc, map}
-use mathlib.Core.Path.{_≡_, _∙_, ap, refl, subst, sym}
+use mathlib.Core.{List.{List, [], _∷_, _++_, append-assoc, map}, Path.{_≡_, _∙_, ap, refl, subst, sym}}
 use mathlib.Core.Bool.{Bool, true, false, cond, _&&_, _||_}
 use Prim.Native.Nat.{ℕ, zero, suc, _+_, _*_, _/_, _<_, _≤_}
-use native.Mathlib.Nat.{mul-le-mul-right, suc-mul}
-use native.Mathlib.Numerals.{add-one}
-use native.Mathlib.Omega.{arith}
-use lib.Dec.{eqb, leb, ltb}
-use lib.ListN.{drop, getD, length, length-append, length-drop, length-map, length-set, set, take}
+use native.Mathlib.{Nat.{mul-le-mul-right, suc-mul}, Numerals.add-one, Omega.arith}
+use lib.{Dec.{eqb, leb, ltb}, ListN.{drop, getD, length, length-append, length-drop, length-map, length-set, set, take}}
 use lib.Seq.{drop-drop, getD-drop, length-take-le, paste-suc, paste-zero, take-append-le, take-take}
 use borrow.Author.Tests.{le-leb, leb-true, ltb-false}
 use Rattle.model.proofs.tests.Truth.{and-true, not-both}
 use Rattle.shelf_model.specs.Shelves.{over, part, share, withPart}
-use Rattle.shelf.specs.declared.paste.Stretch.{Stretch}
-use Rattle.shelf.specs.Pasting.{ifFits, onShelf, pasted, putBack, putOn}
+use Rattle.shelf.specs.{declared.paste.Stretch.Stretch, Pasting.{ifFits, onShelf, pasted, putBack, putOn}}
 
 module _ {A : Type 0} where
   abbrev pub Pasting : List A → ℕ → List A → ℕ → ℕ → List A → ℕ → Type 0

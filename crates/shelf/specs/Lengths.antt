@@ -2,11 +2,9 @@
 use mathlib.Core.Bool.{Bool, _&&_}
 use Prim.Native.Nat.{ℕ, _/_}
 use lib.Dec.{leb}
-use Rattle.model.specs.declared.Control.{Control}
-use Rattle.model.specs.Refusals.{first}
+use Rattle.model.specs.{declared.Control.Control, Refusals.first}
 use Rattle.shelf_model.specs.Shelves.{saveTests, returnTests}
-use Rattle.sound.specs.declared.Lengths.{Lengths}
-use Rattle.sound.specs.Lengths.{tablesFit}
+use Rattle.sound.specs.{declared.Lengths.Lengths, Lengths.tablesFit}
 
 -- A shelf's part of each table.
 abbrev pub eighth : Lengths → Lengths

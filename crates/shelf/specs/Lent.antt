@@ -1,12 +1,11 @@
 -- What a saving and a return leave of every lent word. (Document 02, #109.)
-use mathlib.Core.Bool.{cond}
-use mathlib.Core.List.{List, [], _∷_}
+use mathlib.Core.{Bool.cond, List.{List, [], _∷_}}
 use Prim.Native.Nat.{ℕ}
 use lib.Dec.{eqb}
-use Rattle.model.specs.declared.Control.{Control}
-use Rattle.model.specs.Tables.{Queue}
+use Rattle.model.specs.{declared.Control.Control, Tables.Queue}
 use Rattle.rows.specs.Rows.{controlOf, recordsOf}
-use Rattle.shelf_model.specs.Shelves.{Shelves, over, part, returnRefusal, returned, saveRefusal, saved, shelfAt, withPart}
+use Rattle.shelf_model.specs.Shelves.{Shelves, over, part, returnRefusal, returned, saveRefusal, saved, shelfAt}
+use Rattle.shelf_model.specs.Shelves.{withPart}
 
 -- Shelves whose controls and records are lent as rows of words.
 unfoldable pub controlsOf : List (List ℕ) → List Control

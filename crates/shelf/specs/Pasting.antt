@@ -1,10 +1,7 @@
 -- A stretch of one table put into another: how a table goes on a shelf and comes back.
-use mathlib.Core.Bool.{true, false, _&&_, cond}
-use mathlib.Core.List.{List}
+use mathlib.Core.{Bool.{true, false, _&&_, cond}, List.List}
 use Prim.Native.Nat.{ℕ, _*_, _/_}
-use lib.Dec.{leb}
-use lib.ListN.{drop, length}
-use lib.Seq.{paste}
+use lib.{Dec.leb, ListN.{drop, length}, Seq.paste}
 use Rattle.shelf.specs.declared.paste.Stretch.{Stretch}
 
 -- k entries from `start` on, put at `at`.

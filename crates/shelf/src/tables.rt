@@ -1,7 +1,6 @@
 // The five tables of a queue put on a shelf, and put back.
 use model::Control;
-ghost use mathlib.Core.Path.{_≡_};
-ghost use mathlib.Core.Bool.{cond};
+ghost use mathlib.Core.{Path._≡_, Bool.cond};
 ghost use Prim.Native.Nat.{_+_, _/_, _≤_};
 ghost use Rattle.model.specs.Tables.{isPooled};
 ghost use Rattle.shelf.specs.Pasting.{putOn, putBack};

@@ -1,14 +1,12 @@
 -- What is known where a saving or a return is accepted.
-use mathlib.Core.Bool.{true, _&&_}
-use mathlib.Core.Logic.{_≢_}
-use mathlib.Core.Path.{_≡_, refl}
+use mathlib.Core.{Bool.{true, _&&_}, Logic._≢_, Path.{_≡_, refl}}
 use Prim.Native.Nat.{ℕ, _≤_}
 use lib.{Dec.leb, ListN.length}
 use borrow.Author.Tests.{eqb-false, leb-true, not-false}
-use Rattle.model.specs.declared.Control.{Control}
-use Rattle.model.specs.{Tables.Queue, Sound.controlSound}
+use Rattle.model.specs.{declared.Control.Control, Tables.Queue, Sound.controlSound}
 use Rattle.model.proofs.tests.{Rules.cleared, Truth.and-true}
-use Rattle.shelf_model.specs.Shelves.{Shelves, bothHold, holds, returnRefusal, returnRules, saveRefusal, saveRules, shelfAt}
+use Rattle.shelf_model.specs.Shelves.{Shelves, bothHold, holds, returnRefusal, returnRules, saveRefusal, shelfAt}
+use Rattle.shelf_model.specs.Shelves.{saveRules}
 use Rattle.shelf_model.proofs.Copied.{Long, long}
 
 -- Both sides are long enough for what control c asks for.

@@ -1,27 +1,20 @@
 -- A call stays open until one of its steps answers: so a queue that is idle has answered the calls that it was stepped for.
-use mathlib.Core.Bool.{false, not, true}
-use mathlib.Core.Logic.{_≢_, _⊎_, inl, inr}
-use mathlib.Core.Path.{_≡_, _∙_, ap, refl, subst, sym}
+use mathlib.Core.{Bool.{false, not, true}, Logic.{_≢_, _⊎_, inl, inr}, Path.{_≡_, _∙_, ap, refl, subst, sym}}
 use Prim.Native.Nat.{ℕ, _<_}
 use native.Mathlib.Omega.{arith}
 use lib.{Dec.eqb, Seq.set-getD}
 use borrow.Author.Tests.{eqb-false, eqb-true, not-false}
-use Rattle.model.specs.declared.{Answer.Answer, Call.Call, Entry.Entry, Op.Op, Outcome.Outcome, Record.Record}
-use Rattle.model.specs.declared.Answer.the-variants.{Running}
-use Rattle.model.specs.declared.Op.the-variants.{Pop, Push, PushPooled, Step}
-use Rattle.model.specs.declared.Outcome.the-variants.{Moved, Refused}
-use Rattle.model.specs.Calls.{Acted, act, actOn, back, entryOf, finish, popStart, pushStart, putStart, step}
-use Rattle.model.specs.Ends.{answerEnds, isRunning}
-use Rattle.model.specs.History.{Event, Request, isEffect}
-use Rattle.model.specs.Places.{Move, move, wordFound}
+use Rattle.model.specs.declared.{Answer.{Answer, the-variants.Running}, Call.Call, Entry.Entry, Record.Record}
+use Rattle.model.specs.{declared.Op.{Op, the-variants.{Pop, Push, PushPooled, Step}}, Ends.{answerEnds, isRunning}}
+use Rattle.model.specs.{declared.Outcome.{Outcome, the-variants.{Moved, Refused}}, History.{Event, Request, isEffect}}
+use Rattle.model.specs.Calls.{Acted, act, actOn, back, entryOf, finish, popStart, pushStart, pushPooledStart, step}
+use Rattle.model.specs.{Places.{Move, move, wordFound}, Tables.{Queue, isPooled, recordAt, taskAt, unused}}
 use Rattle.model.specs.Progress.{Busy, stepping, tookEffectOrAnswered, tookEffectOrAnsweredBy}
-use Rattle.model.specs.Refusals.{among, popRefusal, pushRefusal, putRefusal, stepRefusal, stepRules}
-use Rattle.model.specs.Route.{answer, empty, noSlot, onward, popped, pushed, route}
-use Rattle.model.specs.Tables.{Queue, isPooled, recordAt, taskAt, unused}
-use Rattle.model.proofs.bridge.Accepted.{pop-accepted, push-accepted, put-accepted, step-accepted}
+use Rattle.model.specs.Refusals.{among, popRefusal, pushRefusal, pushPooledRefusal, stepRefusal, stepRules}
+use Rattle.model.specs.Route.{answer, empty, noFreeSlot, onward, popped, pushed, route}
+use Rattle.model.proofs.bridge.Accepted.{pop-accepted, push-accepted, push-pooled-accepted, step-accepted}
 use Rattle.model.proofs.laws.{OneTouch.act-others, Onward.leads-on, Refusals.act-refused, Sizes.act-tasks}
-use Rattle.model.proofs.tests.{Rules.cleared, Truth.by-test, Truth.decide-eq, Truth.not-both, Truth.or-false}
-use Rattle.model.proofs.RunSteps.{tells-place}
+use Rattle.model.proofs.{tests.{Rules.cleared, Truth.{by-test, decide-eq, not-both, or-false}}, RunSteps.tells-place}
 use Rattle.shelf_model.specs.Changeovers.{eventOf}
 
 -- ---- a step that answers *running* leads to a place other than 0
@@ -29,7 +22,7 @@ told-next : (n : ℕ) (e : Entry) (p : ℕ) → answer n e ≡ Running p → n �
 unfolding answer
 told-next n e p =
     by-test Goal (eqb n pushed) (λ _. no-run refl) (λ _. by-test Goal (eqb n empty) (λ _. no-run refl)
-    (λ _. by-test Goal (eqb n popped) (λ _. no-run refl) (λ _. by-test Goal (eqb n noSlot) (λ _. no-run refl) (λ _ x. cc))))
+    (λ _. by-test Goal (eqb n popped) (λ _. no-run refl) (λ _. by-test Goal (eqb n noFreeSlot) (λ _. no-run refl) (λ _ x. cc))))
   where
     Goal : Answer → Type 0
     Goal a = a ≡ Running p → n ≡ p
@@ -78,10 +71,10 @@ module _ (q : Queue) (t : ℕ) where
 
   -- A start is refused where the task is busy.
   module _ (b : Busy q t) where
-    abbrev Left : Acted → Type 0
-    Left a = Busy (back q t a .queue) t
+    abbrev StaysBusy : Acted → Type 0
+    StaysBusy a = Busy (back q t a .queue) t
 
-    stays : Left (record { tables = q .tables; task = taskAt q t; outcome = Refused 30 })
+    stays : StaysBusy (record { tables = q .tables; task = taskAt q t; outcome = Refused 30 })
     stays = subst (λ (x : Queue). Busy x t) (λ i. record { tables = q .tables; records = sym (set-getD (q .records) t unused) i }) b
 
     step-busy : (e : Event) → tookEffectOrAnsweredBy e Step (act q t Step .outcome) ≡ false → Busy (act q t Step .queue) t
@@ -98,16 +91,16 @@ module _ (q : Queue) (t : ℕ) where
         go (Moved a) z f = left (ap isRunning z ∙ ap not (or-false (isEffect e a) (answerEnds a) f .1))
 
     own-busy : (o : Op) → tookEffectOrAnswered (eventOf q (record { task = t; op = o })) ≡ false → Busy (act q t o .queue) t
-    unfolding act actOn pushStart popStart putStart
+    unfolding act actOn pushStart popStart pushPooledStart
     own-busy (Push side slot label) f =
-        by-test Left (eqb (pushRefusal (q .tables) (among q t) r side slot) 0)
+        by-test StaysBusy (eqb (pushRefusal (q .tables) (among q t) r side slot) 0)
         (λ z. absurd (b .place (push-accepted q t side slot (eqb-true _ _ z) .starting .free))) (λ _. stays)
     own-busy (Pop side) f =
-        by-test Left (eqb (popRefusal (q .tables) (among q t) r side) 0)
+        by-test StaysBusy (eqb (popRefusal (q .tables) (among q t) r side) 0)
         (λ z. absurd (b .place (pop-accepted q t side (eqb-true _ _ z) .free))) (λ _. stays)
     own-busy (PushPooled side label) f =
-        by-test Left (eqb (putRefusal (q .tables) (among q t) r side) 0)
-        (λ z. absurd (b .place (put-accepted q t side (eqb-true _ _ z) .0 .free))) (λ _. stays)
+        by-test StaysBusy (eqb (pushPooledRefusal (q .tables) (among q t) r side) 0)
+        (λ z. absurd (b .place (push-pooled-accepted q t side (eqb-true _ _ z) .0 .free))) (λ _. stays)
     own-busy Step f = step-busy (eventOf q (record { task = t; op = Step })) f
 
 -- A busy task stays busy while no step takes effect or answers.

@@ -1,22 +1,17 @@
 -- After any openings, starts, steps, savings and returns a queue is, within its lengths, what its past leaves.
-use mathlib.Core.Bool.{Bool, true, cond}
-use mathlib.Core.List.{List, [], _∷_, _++_}
-use mathlib.Core.Logic.{_≢_, _⊎_, inl, inr}
+use mathlib.Core.{Bool.{Bool, true, cond}, List.{List, [], _∷_, _++_}, Logic.{_≢_, _⊎_, inl, inr}}
 use mathlib.Core.Path.{_≡_, _∙_, ap, refl, subst, sym}
 use Prim.Native.Nat.{ℕ, _≤_}
 use lib.Dec.{eqb}
 use borrow.Author.Tests.{eq-eqb, eqb-true, ne-eqb}
-use Rattle.model.specs.declared.Opening.the-variants.{Opened}
-use Rattle.model.specs.{Tables.Queue, Sound.controlSound, Refusals.openRefusal}
-use Rattle.model.specs.Calls.{Done, act, openAs}
-use Rattle.model.specs.History.{Event, Request, final, run}
+use Rattle.model.specs.{declared.Opening.the-variants.Opened, Tables.Queue, Sound.controlSound, Refusals.openRefusal}
+use Rattle.model.specs.{Calls.{Done, act, openAs}, History.{Event, Request, final, run}}
 use Rattle.model.proofs.tests.Truth.{decide-eq, not-both, split}
-use Rattle.shelf_model.specs.Cut.{cut}
-use Rattle.shelf_model.specs.Shelves.{Shelves, copied, returnRefusal, returned, saveRefusal, saved, shelfAt, withShelf}
-use Rattle.shelf_model.specs.Changeovers.{Action, asks, opens, returns, saves, Changeovers, Explained, Holds, Makings, Past, Station, Turn}
-use Rattle.shelf_model.specs.Changeovers.{World, after, begins, continues, does, eventOf, station, turned}
-use Rattle.shelf_model.proofs.CutCalls.{act-cut}
-use Rattle.shelf_model.proofs.Copied.{cut-copied, shelf-other, shelf-same}
+use Rattle.shelf_model.specs.{Cut.cut, Shelves.withShelf, Changeovers.{eventOf, station, turned}}
+use Rattle.shelf_model.specs.Shelves.{Shelves, copied, returnRefusal, returned, saveRefusal, saved, shelfAt}
+use Rattle.shelf_model.specs.Changeovers.{Action, asks, opens, returns, saves, Changeovers, Explained, Holds}
+use Rattle.shelf_model.specs.Changeovers.{Makings, Past, Station, Turn, World, after, begins, continues, does}
+use Rattle.shelf_model.proofs.{CutCalls.act-cut, Copied.{cut-copied, shelf-other, shelf-same}}
 use Rattle.shelf_model.proofs.Accepted.{Fits, return-filled, return-fits, save-fits, save-sound}
 
 -- One request more.

@@ -1,19 +1,11 @@
 -- A queue copied over another: within the lengths it is the one that was copied; and so is what lies on a shelf.
-use mathlib.Core.Bool.{Bool, true, false, _||_, cond, not}
-use mathlib.Core.List.{List, []}
-use mathlib.Core.Logic.{_≢_}
-use mathlib.Core.Path.{_≡_, _∙_, refl}
+use mathlib.Core.{Bool.{Bool, true, false, _||_, cond, not}, List.{List, []}, Logic._≢_, Path.{_≡_, _∙_, refl}}
 use Prim.Native.Nat.{ℕ, suc, _/_, _<_, _≤_}
 use native.Mathlib.Omega.{arith}
-use lib.Dec.{ltb}
-use lib.ListN.{length, take}
-use lib.Seq.{getD-set-other, getD-set-same}
+use lib.{Dec.ltb, ListN.{length, take}, Seq.{getD-set-other, getD-set-same}}
 use borrow.Author.Tests.{leb-true, ltb-true}
-use Rattle.model.specs.declared.Control.{Control}
-use Rattle.model.specs.Tables.{Queue, isPooled, tablesOf}
-use Rattle.model.specs.Sound.{rowTests, rowsFit}
-use Rattle.model.specs.Refusals.{recordsFit}
-use Rattle.model.proofs.tests.{Rules.tests, Truth.and-true}
+use Rattle.model.specs.{declared.Control.Control, Tables.{Queue, isPooled, tablesOf}, Sound.{rowTests, rowsFit}}
+use Rattle.model.{specs.Refusals.recordsFit, proofs.tests.{Rules.tests, Truth.and-true}}
 use Rattle.shelf_model.specs.Cut.{cut}
 use Rattle.shelf_model.specs.Shelves.{Shelves, copied, holds, over, part, share, shelfAt, unfilled, withShelf}
 use Rattle.shelf_model.proofs.Parts.{length-over, part-length, part-other, part-same, take-over}

@@ -1,23 +1,16 @@
 -- What lies beyond the lengths matters to nobody: a start or step of the queue cut to its lengths is the start or step of the queue, cut.
-use mathlib.Core.Bool.{Bool, true, false, _||_, cond, not}
-use mathlib.Core.List.{List, [], _∷_, _++_}
-use mathlib.Core.Path.{_≡_, _∙_, ap, refl}
+use mathlib.Core.{Bool.{Bool, true, false, _||_, cond, not}, List.{List, [], _∷_, _++_}, Path.{_≡_, _∙_, ap, refl}}
 use Prim.Native.Nat.{ℕ, suc, _≤_, _/_, _%_}
 use native.Mathlib.Omega.{arith}
-use lib.Dec.{eqb, ltb}
-use lib.ListN.{getD, length, set, take}
+use lib.{Dec.{eqb, ltb}, ListN.{getD, length, set, take}}
 use borrow.Author.Tests.{eqb-false, eqb-true, not-false}
-use Rattle.model.specs.declared.{Call.Call, Record.Record}
+use Rattle.model.specs.declared.{Call.Call, Record.Record, Outcome.the-variants.{Moved, Refused}}
 use Rattle.model.specs.Tables.{Tables, bit, isPooled, marked, putBit, withMark, withHead, tablesOf}
-use Rattle.model.specs.Sound.{recordSound, rowsFit}
-use Rattle.model.specs.Places.{Touch, nothing, setAnchor, setLink, clearMark, takeSlot, setNext, setHead, Move, apply, wordFound, linkSide, move, row}
-use Rattle.model.specs.declared.Outcome.the-variants.{Moved, Refused}
-use Rattle.model.specs.Route.{answer, onward, route}
+use Rattle.model.specs.{Sound.{recordSound, rowsFit}, Places.{wordFound, linkSide, move, row}}
+use Rattle.model.specs.Places.{Touch, nothing, setAnchor, setLink, clearMark, takeSlot, setNext, setHead, Move, apply}
+use Rattle.model.specs.{Route.{answer, onward, route}, Calls.{Acted, decide, finish, step}}
 use Rattle.model.specs.Refusals.{Lent, admissionRules, first, fits, rule, stepRefusal, stepRules, stepSound}
-use Rattle.model.specs.Calls.{Acted, decide, finish, step}
-use Rattle.model.proofs.tests.Rules.{cleared}
-use Rattle.model.proofs.bridge.Facts.{RecordFine, control-fine, record-fine}
-use Rattle.model.proofs.bridge.Stores.{TouchFine}
+use Rattle.model.proofs.{tests.Rules.cleared, bridge.{Facts.{RecordFine, control-fine, record-fine}, Stores.TouchFine}}
 use Rattle.model.proofs.bridge.Touches.{beyond, move-fine, row-fine}
 use Rattle.shelf_model.specs.Cut.{cutTables}
 use Rattle.shelf_model.proofs.Lists.{get-take, longer-take, set-take}

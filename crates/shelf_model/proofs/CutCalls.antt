@@ -1,29 +1,20 @@
 -- Starts, whole operations, lists of them and the walk: the queue cut to its lengths does as the queue.
-use mathlib.Core.Bool.{Bool, true, false, _&&_, cond, not}
-use mathlib.Core.List.{List, [], _∷_}
-use mathlib.Core.Path.{_≡_, _∙_, ap, ap₂, refl, sym}
+use mathlib.Core.{Bool.{Bool, true, false, _&&_, cond, not}, List.{List, [], _∷_}, Path.{_≡_, _∙_, ap, ap₂, refl, sym}}
 use Prim.Native.Nat.{ℕ, zero, suc, _≤_}
 use native.Mathlib.Omega.{arith}
-use lib.Dec.{eqb, ltb}
-use lib.ListN.{getD, set, take}
-use lib.Seq.{set-getD}
+use lib.{Dec.{eqb, ltb}, ListN.{getD, set, take}, Seq.set-getD}
 use borrow.Author.Tests.{ltb-true, not-false}
 use Rattle.word.specs.{Anchor.anchorOf, Link.linkOf}
-use Rattle.model.specs.declared.Answer.the-variants.{Running}
-use Rattle.model.specs.declared.{Op.Op, Call.Call, Record.Record, Asked.Asked, Control.Control}
-use Rattle.model.specs.declared.Op.the-variants.{Push, Pop, PushPooled, Step}
-use Rattle.model.specs.declared.Outcome.the-variants.{Moved, Refused}
+use Rattle.model.specs.declared.{Answer.the-variants.Running, Op.{Op, the-variants.{Push, Pop, PushPooled, Step}}}
+use Rattle.model.specs.declared.{Call.Call, Record.Record, Asked.Asked, Control.Control}
+use Rattle.model.specs.{declared.Outcome.the-variants.{Moved, Refused}, Sound.{controlSound, from1, linkSound}}
 use Rattle.model.specs.Tables.{Queue, Tables, asking, isPooled, started, taskAt, unused, withCall, withTaken}
-use Rattle.model.specs.Sound.{controlSound, from1, linkSound}
-use Rattle.model.specs.Refusals.{Lent, admissionRules, among, first, fits, namedPush, nothingAsked, pooledPush, popRefusal, pushRefusal, putRefusal}
-use Rattle.model.specs.Refusals.{rule, startRules, startRefusal, stepRefusal}
-use Rattle.model.specs.Calls.{Acted, Done, act, actOn, back, decide, popStart, pushStart, putStart, step}
+use Rattle.model.specs.Refusals.{Lent, admissionRules, among, first, fits, namedPush, nothingAsked, pooledPush, rule}
+use Rattle.model.specs.Refusals.{popRefusal, pushRefusal, pushPooledRefusal, startRules, startRefusal, stepRefusal}
+use Rattle.model.specs.Calls.{Acted, Done, act, actOn, back, decide, popStart, pushStart, pushPooledStart, step}
 use Rattle.model.specs.Walk.{Walk, along, andThen, broken, contents, entries, walkFrom, whence}
-use Rattle.model.specs.History.{Event, Request, final, run}
-use Rattle.model.proofs.tests.{Rules.cleared, Truth.split}
-use Rattle.model.proofs.bridge.Facts.{from1-true}
-use Rattle.model.proofs.laws.Sizes.{act-tasks}
-use Rattle.model.specs.Sides.{far, isEmpty, near, opposite}
+use Rattle.model.specs.{History.{Event, Request, run}, Sides.{far, isEmpty, near, opposite}}
+use Rattle.model.proofs.{tests.{Rules.cleared, Truth.split}, bridge.Facts.from1-true, laws.Sizes.act-tasks}
 use Rattle.shelf_model.specs.Cut.{cut, cutTables}
 use Rattle.shelf_model.proofs.Lists.{enough-take, get-take, set-take}
 use Rattle.shelf_model.proofs.Cut.{columns, cutActed, decide-cut, fits-cut, mark-cut, marked-cut, step-cut}
@@ -60,7 +51,7 @@ push-within q p r side slot e =
     from1-true (q .control .slots) slot (not-false _ (z .1 .1 .1 .1 .1 .0)) .1
 
 act-on-cut : (q : Tables) (p : Lent) (r : Record) (o : Op) → actOn (cutTables q) p r o ≡ cutActed (actOn q p r o)
-unfolding actOn pushStart putStart popStart
+unfolding actOn pushStart pushPooledStart popStart
 act-on-cut q p r (Push side slot label) =
     let begun : (Tables → Acted) = λ t. record { tables = t; task = withCall r (started 0 side slot label); outcome = Moved (Running 1) } in
     ap (λ (why : ℕ). decide why (cutTables q) r (begun (withTaken (cutTables q) slot label))) (push-refusal-cut q p (r .call) side slot)
@@ -73,7 +64,7 @@ act-on-cut q p r (Pop side) =
 act-on-cut q p r (PushPooled side label) =
     let begun : (Tables → Acted) = λ t. record { tables = t; task = withCall r (asking side label); outcome = Moved (Running 12) } in
     ap (λ (why : ℕ). decide why (cutTables q) r (begun (cutTables q))) (start-refusal-cut q p (r .call) side (pooledPush q))
-    ∙ decide-cut (putRefusal q p (r .call) side) q r (begun q) (begun (cutTables q)) (λ e. refl)
+    ∙ decide-cut (pushPooledRefusal q p (r .call) side) q r (begun q) (begun (cutTables q)) (λ e. refl)
 act-on-cut q p r Step = step-cut q p r
 
 -- A task that there is not: refused by 34, 12 or 13, whatever its record.
@@ -87,7 +78,7 @@ not-zero false false = refl
 
 unknown : (q : Tables) (p : Lent) (r : Record) (o : Op) → p .known ≡ false
     → actOn q p r o ≡ record { tables = q; task = r; outcome = Refused (unknownBy q p) }
-unfolding actOn pushStart putStart popStart step startRefusal stepRefusal
+unfolding actOn pushStart pushPooledStart popStart step startRefusal stepRefusal
 unknown q p r (Push side slot label) e = rw (e, not-zero (not (controlSound (q .control))) (not (fits q && p .enough)))
 unknown q p r (Pop side) e = rw (e, not-zero (not (controlSound (q .control))) (not (fits q && p .enough)))
 unknown q p r (PushPooled side label) e = rw (e, not-zero (not (controlSound (q .control))) (not (fits q && p .enough)))
@@ -163,12 +154,6 @@ run-cut (o ∷ os) q =
       before = q .tables .control .anchor;
       after = d .queue .tables .control .anchor;
     }
-
-pub final-cut : (os : List Request) (q : Queue) → final (cut q) os ≡ cut (final q os)
-unfolding final
-final-cut [] q = refl
-final-cut (o ∷ os) q =
-    ap (λ (d : Done). final (d .queue) os) (act-cut q (o .task) (o .op)) ∙ final-cut os (act q (o .task) (o .op) .queue)
 
 -- The walk.
 along-cut : (slots : ℕ) (links labels : List ℕ) (last n x : ℕ)

@@ -1,17 +1,12 @@
 -- Which slots are taken, in use and marked: the same in queues that are alike within their lengths.
-use mathlib.Core.Bool.{Bool, true}
-use mathlib.Core.Path.{_≡_, _∙_, ap, subst, sym}
+use mathlib.Core.{Bool.{Bool, true}, Path.{_≡_, _∙_, ap, subst, sym}}
 use Prim.Native.Nat.{ℕ, _<_, _≤_}
-use Rattle.model.specs.declared.{Call.Call, Control.Control, Op.Op, Record.Record}
-use Rattle.model.specs.declared.Op.the-variants.{Step}
-use Rattle.model.specs.Tables.{Queue, marked, recordAt, taskAt}
-use Rattle.model.specs.Calls.{Done, act}
-use Rattle.model.specs.Walk.{contents}
-use Rattle.model.specs.History.{InUse, MarkedIn, NoSlotIn, Taken, Waits, is-taken, pop-gives, pop-holds, popGives, popHolds, push-holds, pushHolds}
-use Rattle.model.specs.History.{waits}
+use Rattle.model.specs.{declared.{Call.Call, Control.Control, Op.{Op, the-variants.Step}, Record.Record}, Walk.contents}
+use Rattle.model.specs.{Tables.{Queue, marked, recordAt, taskAt}, Calls.{Done, act}}
+use Rattle.model.specs.History.{InUse, MarkedIn, NoFreeSlotIn, Taken, Waits, is-taken, pop-gives, pop-holds, popGives}
+use Rattle.model.specs.History.{popHolds, push-holds, pushHolds, waits}
 use Rattle.shelf_model.specs.Cut.{cut}
-use Rattle.shelf_model.proofs.{Cut.marked-cut, Stretches.task-cut}
-use Rattle.shelf_model.proofs.CutCalls.{act-cut, contents-cut}
+use Rattle.shelf_model.proofs.{Cut.marked-cut, Stretches.task-cut, CutCalls.{act-cut, contents-cut}}
 
 module _ (p q : Queue) (e : cut p ≡ cut q) where
   control : p .tables .control ≡ q .tables .control
@@ -48,8 +43,8 @@ module _ (p q : Queue) (e : cut p ≡ cut q) where
   within : (x : ℕ) → x ≤ q .tables .control .slots → x ≤ p .tables .control .slots
   within x h = subst (λ (c : Control). x ≤ c .slots) (sym control) h
 
-  pub no-slot-alike : NoSlotIn p → NoSlotIn q
-  no-slot-alike h t f x low high = in-use x (h t (outcome t Step ∙ f) x low (within x high))
+  pub no-free-slot-alike : NoFreeSlotIn p → NoFreeSlotIn q
+  no-free-slot-alike h t f x low high = in-use x (h t (outcome t Step ∙ f) x low (within x high))
 
 pub marks-alike : (p q : Queue) → cut p ≡ cut q → MarkedIn Taken p → MarkedIn Taken q
 marks-alike p q e h x low high =

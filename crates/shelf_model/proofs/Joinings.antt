@@ -1,25 +1,20 @@
 -- A joining is turns of its third, those that push the labels: so whatever holds after turns holds with joinings among them.
 -- A queue is filled only while it is idle, so a stretch with joinings in it, up to an answer, is one of turns.
-use mathlib.Core.Bool.{Bool, _&&_, cond, false, not, true}
-use mathlib.Core.List.{List, [], _∷_, _++_, append-assoc, append-nil, map}
-use mathlib.Core.Logic.{_≢_, _⊎_, inl, inr}
-use mathlib.Core.Path.{_≡_, _∙_, ap, ap₂, refl, subst, sym}
+use mathlib.Core.{Bool.{Bool, _&&_, cond, false, not, true}, List.{List, [], _∷_, _++_, append-assoc, append-nil, map}}
+use mathlib.Core.{Logic.{_≢_, _⊎_, inl, inr}, Path.{_≡_, _∙_, ap, ap₂, refl, subst, sym}}
 use Prim.Native.Nat.{ℕ, _≤_}
 use lib.Dec.{eqb}
 use borrow.Author.Tests.{eq-eqb, eqb-true, ne-eqb}
-use Rattle.model.specs.{Tables.Queue, Tables.isPooled, Calls.act}
-use Rattle.model.specs.History.{Event, Request, final, run}
+use Rattle.model.specs.{Tables.{Queue, isPooled}, Calls.act, History.{Event, Request, final, run}}
 use Rattle.model.specs.Progress.{Busy, steps, stretchLimit}
-use Rattle.model.proofs.laws.Sizes.{Sizes}
-use Rattle.model.proofs.tests.Truth.{and-true, by-test, decide-eq, not-both, split}
+use Rattle.model.proofs.{laws.Sizes.Sizes, tests.Truth.{and-true, by-test, decide-eq, not-both, split}}
 use Rattle.join_model.specs.Join.{join, joinRefusal, lanes, pushes}
-use Rattle.shelf_model.specs.Changeovers.{Past, Turn, World, after, asks, breaks, continues, does, eventOf, eventsOf}
-use Rattle.shelf_model.specs.Changeovers.{station, turned, unbroken, withEvent}
-use Rattle.shelf_model.specs.Promises.{Kept}
-use Rattle.shelf_model.specs.Joinings.{Deed, JoinsKept, afterAll, afterOne, continuous, eventsIn, goesOn, joinedIn, joins, replaces}
-use Rattle.shelf_model.specs.Joinings.{turns, withDeed}
-use Rattle.shelf_model.proofs.Changeovers.{makings}
-use Rattle.shelf_model.proofs.Ongoing.{SomeBusy, Stepless, deed-less, deed-made, deed-more, deed-sizes, deed-steps, filled-idle, tells, turn-busy}
+use Rattle.shelf_model.specs.Changeovers.{Past, Turn, World, after, asks, breaks, continues, does, eventOf}
+use Rattle.shelf_model.specs.{Changeovers.{eventsOf, station, turned, unbroken, withEvent}, Promises.Kept}
+use Rattle.shelf_model.specs.Joinings.{Deed, JoinsKept, afterAll, afterOne, continuous, eventsIn, goesOn, joins}
+use Rattle.shelf_model.specs.Joinings.{joinedIn, replaces, turns, withDeed}
+use Rattle.shelf_model.proofs.{Changeovers.makings, Ongoing.{deed-steps, filled-idle, progressed, turn-busy}}
+use Rattle.shelf_model.proofs.Ongoing.{SomeBusy, Stepless, deed-less, deed-made, deed-more, deed-sizes}
 use Rattle.shelf_model.proofs.Promises.{promises}
 
 -- ---- queue k is asked for a list, and nothing else happens
@@ -27,7 +22,7 @@ module _ (k : ℕ) where
   abbrev turn : Request → Turn
   turn o = record { queue = k; action = asks o }
 
-  record Asked (w : World) (os : List Request) (v : World) : Type 0 where
+  record AfterRequests (w : World) (os : List Request) (v : World) : Type 0 where
     queue : v .queues k ≡ final (w .queues k) os
     past : v .pasts k ≡ goesOn (w .pasts k) (w .queues k) os
     others : (n : ℕ) → n ≢ k → (v .pasts n ≡ w .pasts n) × (v .queues n ≡ w .queues n)
@@ -53,9 +48,9 @@ module _ (k : ℕ) where
     events = append-assoc (p .events) (eventOf q o ∷ []) (run (act q (o .task) (o .op) .queue) os) i;
   }
 
-  asked : (os : List Request) (w : World) → Asked w os (after w (map turn os))
+  after-requests : (os : List Request) (w : World) → AfterRequests w os (after w (map turn os))
   unfolding after final run turned does
-  asked [] w = record {
+  after-requests [] w = record {
     queue = refl;
     past = λ i. record {
       made = w .pasts k .made;
@@ -67,8 +62,8 @@ module _ (k : ℕ) where
     shelves = refl;
     stored = λ n. refl;
   }
-  asked (o ∷ os) w =
-      let h = asked os (turned w (turn o)) in
+  after-requests (o ∷ os) w =
+      let h = after-requests os (turned w (turn o)) in
       record {
         queue = h .queue ∙ ap (λ (q : Queue). final q os) (own-queue w o);
         past = h .past ∙ ap₂ (λ (p : Past) (q : Queue). goesOn p q os) (own-past w o) (own-queue w o) ∙ one-more (w .pasts k) (w .queues k) o os;
@@ -103,8 +98,8 @@ module _ (w : World) (i j k : ℕ) where
     abbrev v : World
     v = after w (map (turn k) os)
 
-    abbrev h : Asked k w os v
-    h = asked k os w
+    abbrev h : AfterRequests k w os v
+    h = after-requests k os w
 
     same-queue : (n : ℕ) → joinedIn w i j k .queues n ≡ v .queues n
     unfolding joinedIn
@@ -226,7 +221,7 @@ module _ (i : ℕ) (w : World) (j k third : ℕ) (t : ℕ) (b : Busy (w .queues 
       (λ _. b)
 
 -- A stretch that begins with a busy task, and in which nothing takes effect or answers.
-stretch-of : (i : ℕ) (l : List Deed) (w : World) (n : ℕ) → Busy (w .queues i) n → continuous i w l ≡ true → tells (eventsIn i w l) ≡ false
+stretch-of : (i : ℕ) (l : List Deed) (w : World) (n : ℕ) → Busy (w .queues i) n → continuous i w l ≡ true → progressed (eventsIn i w l) ≡ false
     → Stretch i w (eventsIn i w l)
 unfolding continuous eventsIn unbroken eventsOf
 stretch-of i [] w n b u f = record { list = []; whole = refl; same = refl }
@@ -248,15 +243,15 @@ abbrev limitOf : Queue → ℕ
 limitOf q = let c = q .tables .control in stretchLimit (isPooled c) (c .tasks)
 
 module _ (i : ℕ) where
-  by-turns : (w : World) (es : List Event) → Kept w → w .pasts i .made ≡ true → Stretch i w es → limitOf (w .queues i) ≤ steps es → tells es ≡ true
+  by-turns : (w : World) (es : List Event) → Kept w → w .pasts i .made ≡ true → Stretch i w es → limitOf (w .queues i) ≤ steps es → progressed es ≡ true
   by-turns w es kept made s enough =
-      subst (λ (es : List Event). tells es ≡ true) (s .same)
+      subst (λ (es : List Event). progressed es ≡ true) (s .same)
       (kept .promised i made .progress .stretch (s .list) (s .whole)
       (subst (λ (es : List Event). limitOf (w .queues i) ≤ steps es) (sym (s .same)) enough))
 
   -- Up to the first accepted step nothing counts; from there on a task is busy until one answers.
   stretches : (l : List Deed) (w : World) → ((m : List Deed) → Kept (afterAll w m)) → w .pasts i .made ≡ true → continuous i w l ≡ true
-      → limitOf (w .queues i) ≤ steps (eventsIn i w l) → tells (eventsIn i w l) ≡ true
+      → limitOf (w .queues i) ≤ steps (eventsIn i w l) → progressed (eventsIn i w l) ≡ true
   unfolding continuous eventsIn afterAll unbroken eventsOf
   stretches [] w kept made u enough = by-turns w [] (kept []) made (record { list = []; whole = refl; same = refl }) enough
   stretches (d ∷ l) w kept made u enough =
@@ -267,8 +262,8 @@ module _ (i : ℕ) where
       es : List Event
       es = eventsIn i (afterOne w d) l
 
-      go : SomeBusy w i ⊎ Stepless w i d → (limitOf (w .queues i) ≤ steps es → tells es ≡ true) → tells (withDeed i w d es) ≡ true
-      go (inl b) more = split (tells (withDeed i w d es)) (λ e. e)
+      go : SomeBusy w i ⊎ Stepless w i d → (limitOf (w .queues i) ≤ steps es → progressed es ≡ true) → progressed (withDeed i w d es) ≡ true
+      go (inl b) more = split (progressed (withDeed i w d es)) (λ e. e)
           (λ f. by-turns w (withDeed i w d es) (kept []) made (stretch-of i (d ∷ l) w (b .0) (b .1) u f) enough)
       go (inr z) more = deed-more w i d es (more (subst (λ (n : ℕ). limitOf (w .queues i) ≤ n) (z es) enough))
 

@@ -3,13 +3,10 @@ use mathlib.Core.Path.{_≡_, _∙_, ap, sym}
 use Prim.Native.Nat.{ℕ}
 use lib.Dec.{eqb}
 use borrow.Author.Tests.{eq-eqb, eqb-true, ne-eqb}
-use Rattle.model.specs.{Tables.Queue, History.run}
-use Rattle.model.proofs.tests.Truth.{split}
-use Rattle.shelf_model.specs.Cut.{cut}
+use Rattle.model.{specs.{Tables.Queue, History.run}, proofs.tests.Truth.split}
+use Rattle.shelf_model.specs.{Cut.cut, Laws.{BeyondIgnored, OthersKept, RefusalKeeps, RoundTrip}}
 use Rattle.shelf_model.specs.Shelves.{Shelves, copied, returnRefusal, returned, saveRefusal, saved, shelfAt}
-use Rattle.shelf_model.specs.Laws.{BeyondIgnored, OthersKept, RefusalKeeps, RoundTrip}
-use Rattle.shelf_model.proofs.CutCalls.{run-cut}
-use Rattle.shelf_model.proofs.Copied.{cut-copied, shelf-other, shelf-same}
+use Rattle.shelf_model.proofs.{CutCalls.run-cut, Copied.{cut-copied, shelf-other, shelf-same}}
 use Rattle.shelf_model.proofs.Accepted.{return-fits, save-fits}
 
 pub refusal-keeps : RefusalKeeps

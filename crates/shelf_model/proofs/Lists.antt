@@ -1,11 +1,8 @@
 -- Lists cut to a length: reads below it, stores, lengths.
-use mathlib.Core.Bool.{Bool, true, false}
-use mathlib.Core.List.{List, [], _∷_}
-use mathlib.Core.Path.{_≡_, ap, refl, sym}
+use mathlib.Core.{Bool.{Bool, true, false}, List.{List, [], _∷_}, Path.{_≡_, ap, refl, sym}}
 use Prim.Native.Nat.{ℕ, zero, suc, _<_}
 use native.Mathlib.Omega.{arith}
-use lib.Dec.{leb, ltb}
-use lib.ListN.{getD, length, length-take, set, take}
+use lib.{Dec.{leb, ltb}, ListN.{getD, length, length-take, set, take}}
 use borrow.Author.Tests.{le-leb, leb-true, lt-ltb, ltb-true}
 
 pub same-test : (a b : Bool) → (a ≡ true → b ≡ true) → (b ≡ true → a ≡ true) → a ≡ b
@@ -25,11 +22,6 @@ module _ {A : Type 0} where
   set-take (suc n) [] x v = refl
   set-take (suc n) (y ∷ l) zero v = refl
   set-take (suc n) (y ∷ l) (suc x) v = ap (λ (m : List A). y ∷ m) (set-take n l x v)
-
-  pub take-take : (n : ℕ) (l : List A) → take n (take n l) ≡ take n l
-  take-take zero l = refl
-  take-take (suc n) [] = refl
-  take-take (suc n) (y ∷ l) = ap (λ (m : List A). y ∷ m) (take-take n l)
 
   -- Long enough when cut is long enough.
   pub longer-take : (n : ℕ) (l : List A) → ltb n (length (take (suc n) l)) ≡ ltb n (length l)

@@ -1,25 +1,15 @@
 -- The links between neighbours among the labels waiting: the same in queues that are alike within their lengths.
-use mathlib.Core.Bool.{cond}
-use mathlib.Core.List.{List, [], _∷_, _++_, reverse}
-use mathlib.Core.Path.{_≡_, _∙_, ap, refl, subst, sym}
+use mathlib.Core.{Bool.cond, List.{List, [], _∷_, _++_, reverse}, Path.{_≡_, _∙_, ap, refl, subst, sym}}
 use Prim.Native.Nat.{ℕ, zero, suc, _≤_}
 use native.Mathlib.Omega.{arith}
-use lib.Dec.{eqb}
-use lib.ListN.{getD, take}
+use lib.{Dec.eqb, ListN.{getD, take}}
 use Rattle.word.specs.{Anchor.anchorOf, Link.linkOf}
-use Rattle.model.specs.declared.{Control.Control, Entry.Entry}
-use Rattle.model.specs.Tables.{Queue, Tables}
-use Rattle.model.specs.Lists.{All}
-use Rattle.model.specs.Sides.{far, isEmpty, links, near, opposite}
-use Rattle.model.specs.Sound.{from1, linkSound}
+use Rattle.model.specs.{declared.{Control.Control, Entry.Entry}, Tables.{Queue, Tables}, Lists.All}
+use Rattle.model.specs.{Sides.{far, isEmpty, links, near, opposite}, Sound.{from1, linkSound}, Neighbours.NeighboursIn}
 use Rattle.model.specs.Walk.{Walk, along, andThen, broken, contents, entries, walkFrom, whence}
-use Rattle.model.specs.Neighbours.{Joined, NeighboursIn}
-use Rattle.model.proofs.bridge.Facts.{from1-true}
-use Rattle.model.proofs.lists.All.{all-reverse}
-use Rattle.model.proofs.tests.Truth.{by-test, either}
+use Rattle.model.proofs.{bridge.Facts.from1-true, lists.All.all-reverse, tests.Truth.{by-test, either}}
 use Rattle.shelf_model.specs.Cut.{cut}
-use Rattle.shelf_model.proofs.Lists.{get-take}
-use Rattle.shelf_model.proofs.CutCalls.{contents-cut}
+use Rattle.shelf_model.proofs.{Lists.get-take, CutCalls.contents-cut}
 
 -- The walk meets slots of the queue alone.
 abbrev Inside : ℕ → Entry → Type 0

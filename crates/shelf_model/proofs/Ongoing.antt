@@ -1,33 +1,27 @@
 -- What goes on in queue i across whatever ends no stretch of it: it is made, its sizes stay, and a busy task stays busy until one answers.
-use mathlib.Core.Bool.{Bool, _&&_, cond, false, not, true}
-use mathlib.Core.List.{List, [], _∷_}
-use mathlib.Core.Logic.{_⊎_, inl, inr}
+use mathlib.Core.{Bool.{Bool, _&&_, cond, false, not, true}, List.{List, [], _∷_}, Logic.{_⊎_, inl, inr}}
 use mathlib.Core.Path.{_≡_, _∙_, ap, refl, subst, sym}
 use Prim.Native.Nat.{ℕ}
 use native.Mathlib.Omega.{arith}
 use lib.Dec.{eqb}
 use borrow.Author.Tests.{eq-eqb, eqb-true, not-false, not-true}
-use Rattle.model.specs.{Calls.act, Refusals.openRefusal, Report.busy, Tables.Queue}
-use Rattle.model.specs.History.{Event, run}
+use Rattle.model.specs.{Calls.act, Refusals.openRefusal, Report.busy, Tables.Queue, History.{Event, run}}
 use Rattle.model.specs.Progress.{Busy, any, stepping, steps, tookEffectOrAnswered}
-use Rattle.model.proofs.laws.Sizes.{act-sizes, sizes}
-use Rattle.model.proofs.tests.Rules.{cleared, tests}
+use Rattle.model.proofs.{laws.Sizes.{act-sizes, sizes}, tests.Rules.{cleared, tests}}
 use Rattle.model.proofs.tests.Truth.{and-true, by-test, either, not-both, or-false, or-second, split}
-use Rattle.join_model.specs.Join.{anyLate, atRest, fresh, freshTests, join, joinRefusal, joinRules, lanes, outcomes, pushes}
-use Rattle.join_model.proofs.Fresh.{none-pass}
-use Rattle.shelf_model.specs.Changeovers.{Action, Past, Station, Turn, World, asks, breaks, does, eventOf}
-use Rattle.shelf_model.specs.Changeovers.{opens, returns, saves, station, turned, withEvent}
-use Rattle.shelf_model.specs.Shelves.{returnRefusal}
+use Rattle.join_model.specs.Join.{anyLate, atRest, fresh, freshTests, join, joinRefusal, joinRules, lanes, outcomes}
+use Rattle.join_model.{specs.Join.pushes, proofs.Fresh.none-pass}
+use Rattle.shelf_model.specs.Changeovers.{Action, Past, Station, Turn, World, asks, breaks, does, eventOf, opens}
+use Rattle.shelf_model.specs.{Changeovers.{returns, saves, station, turned, withEvent}, Shelves.returnRefusal}
 use Rattle.shelf_model.specs.Joinings.{Deed, afterOne, joinedIn, joins, replaces, turns, withDeed}
-use Rattle.shelf_model.proofs.Busy.{act-busy, steps-busy}
-use Rattle.shelf_model.proofs.Pasts.{final-sizes}
+use Rattle.shelf_model.proofs.{Busy.{act-busy, steps-busy}, Pasts.final-sizes}
 use Rattle.shelf_model.proofs.Stretches.{open-refused, return-refused, turn}
 
 abbrev SameSizes : Queue → Queue → Type 0
 SameSizes p q = sizes (p .tables) ≡ sizes (q .tables)
 
-abbrev pub tells : List Event → Bool
-tells es = any tookEffectOrAnswered es
+abbrev pub progressed : List Event → Bool
+progressed es = any tookEffectOrAnswered es
 
 -- ---- an action of queue i
 module _ (w : World) (i : ℕ) where
@@ -52,11 +46,11 @@ module _ (w : World) (i : ℕ) where
   own-made (returns n) u = rw (not-true (eqb (returnRefusal q (w .shelves) n) 0) u)
 
   module _ (t : ℕ) (b : Busy q t) (es : List Event) where
-    own-busy : (a : Action) → GoesOn a → tells (withEvent q a es) ≡ false → Busy (does (station w i) a .queue) t
+    own-busy : (a : Action) → GoesOn a → progressed (withEvent q a es) ≡ false → Busy (does (station w i) a .queue) t
     unfolding does any
     own-busy (opens pooled tasks slots tag) u f =
         subst (λ (x : Queue). Busy x t) (sym (open-refused q pooled tasks slots tag (not-true _ u))) b
-    own-busy (asks o) u f = act-busy q o t b (or-false (tookEffectOrAnswered (eventOf q o)) (tells es) f .0)
+    own-busy (asks o) u f = act-busy q o t b (or-false (tookEffectOrAnswered (eventOf q o)) (progressed es) f .0)
     own-busy (saves n) u f = b
     own-busy (returns n) u f = subst (λ (x : Queue). Busy x t) (sym (return-refused q (w .shelves) n (not-true _ u))) b
 
@@ -82,10 +76,10 @@ module _ (w : World) (i : ℕ) (t : Turn) (u : not (eqb i (t .queue) && breaks (
   turn-made : turned w t .pasts i .made ≡ w .pasts i .made
   turn-made = by-turn (λ x p. p .made ≡ w .pasts i .made) (λ _ h. own-made w i (t .action) h) refl
 
-  pub turn-busy : (n : ℕ) (es : List Event) → Busy (w .queues i) n → tells (withDeed i w (turns t) es) ≡ false → Busy (turned w t .queues i) n
+  pub turn-busy : (n : ℕ) (es : List Event) → Busy (w .queues i) n → progressed (withDeed i w (turns t) es) ≡ false → Busy (turned w t .queues i) n
   turn-busy n es b f =
       by-turn (λ x p. Busy x n)
-      (λ e h. own-busy w i n b es (t .action) h (subst (λ (c : Bool). tells (cond c (withEvent (w .queues i) (t .action) es) es) ≡ false) e f)) b
+      (λ e h. own-busy w i n b es (t .action) h (subst (λ (c : Bool). progressed (cond c (withEvent (w .queues i) (t .action) es) es) ≡ false) e f)) b
 
 -- ---- a joining: its third is idle where it is accepted
 pub filled-idle : (a b q : Queue) → eqb (joinRefusal a b q) 0 ≡ true → (t : ℕ) → Busy q t → ⊥
@@ -124,19 +118,19 @@ module _ (w : World) (i : ℕ) where
   deed-made (joins j k third) u = join-made w i j k third
 
   -- Events before others hide nothing.
-  pub deed-more : (d : Deed) (es : List Event) → tells es ≡ true → tells (withDeed i w d es) ≡ true
+  pub deed-more : (d : Deed) (es : List Event) → progressed es ≡ true → progressed (withDeed i w d es) ≡ true
   unfolding any
   deed-more (joins j k third) es h = h
-  deed-more (turns t) es h = either (λ (l : List Event). tells l ≡ true) (eqb i (t .queue)) (go (t .action)) h
+  deed-more (turns t) es h = either (λ (l : List Event). progressed l ≡ true) (eqb i (t .queue)) (go (t .action)) h
     where
-      go : (a : Action) → tells (withEvent (w .queues i) a es) ≡ true
+      go : (a : Action) → progressed (withEvent (w .queues i) a es) ≡ true
       go (opens pooled tasks slots tag) = h
       go (asks o) = or-second (tookEffectOrAnswered (eventOf (w .queues i) o)) h
       go (saves n) = h
       go (returns n) = h
 
-  pub deed-less : (d : Deed) (es : List Event) → tells (withDeed i w d es) ≡ false → tells es ≡ false
-  deed-less d es f = split (tells es) (λ e. absurd (not-both (deed-more d es e) f)) (λ e. e)
+  pub deed-less : (d : Deed) (es : List Event) → progressed (withDeed i w d es) ≡ false → progressed es ≡ false
+  deed-less d es f = split (progressed es) (λ e. absurd (not-both (deed-more d es e) f)) (λ e. e)
 
   -- No accepted step is among what it shows, or a task is busy before.
   abbrev pub Stepless : Deed → Type 0

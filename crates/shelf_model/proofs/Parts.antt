@@ -1,13 +1,9 @@
 -- Eight parts of a flat table: one replaced, the others as they were.
-use mathlib.Core.List.{List, [], _∷_, _++_, append-assoc}
-use mathlib.Core.Logic.{_≢_, _⊎_, inl, inr}
-use mathlib.Core.Path.{_≡_, _∙_, ap, refl, sym}
+use mathlib.Core.{List.{List, [], _∷_, _++_, append-assoc}, Logic.{_≢_, _⊎_, inl, inr}, Path.{_≡_, _∙_, ap, refl, sym}}
 use Prim.Native.Nat.{ℕ, zero, suc, _+_, _*_, _/_, _-_, _<_, _≤_}
-use native.Mathlib.Nat.{mul-le-mul-right, suc-mul}
-use native.Mathlib.{Decide.decLt, Omega.arith}
-use lib.Arith.{lt-of-le-ne}
-use lib.ListN.{drop, length, length-append, length-drop, take}
-use lib.Seq.{drop-append-add, drop-append-le, drop-at, drop-drop, length-take-le, take-append-le, take-at, take-nil, take-take}
+use native.Mathlib.{Nat.{mul-le-mul-right, suc-mul}, Decide.decLt, Omega.arith}
+use lib.{Arith.lt-of-le-ne, ListN.{drop, length, length-append, length-drop, take}, Seq.take-take}
+use lib.Seq.{drop-append-add, drop-append-le, drop-at, drop-drop, length-take-le, take-append-le, take-at, take-nil}
 use Rattle.shelf_model.specs.Shelves.{over, part, share, withPart}
 
 module _ {A : Type 0} where

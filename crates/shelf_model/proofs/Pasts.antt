@@ -1,31 +1,22 @@
 -- A queue, and a past that leaves it: what holds after every accepted opening holds of both.
-use mathlib.Core.Bool.{true, _&&_, cond}
-use mathlib.Core.List.{List, [], _∷_, _++_, map}
-use mathlib.Core.Path.{_≡_, _∙_, ap, ap₂, refl, subst, sym}
+use mathlib.Core.{Bool.{true, _&&_, cond}, List.{List, [], _∷_, _++_, map}, Path.{_≡_, _∙_, ap, ap₂, refl, subst, sym}}
 use Prim.Native.Nat.{ℕ, zero, suc, _+_, _<_, _≤_}
 use native.Mathlib.Omega.{arith}
 use lib.{Dec.eqb, ListN.length}
-use Rattle.model.specs.declared.{Control.Control, Entry.Entry, Record.Record}
-use Rattle.model.specs.declared.Outcome.the-variants.{Refused}
-use Rattle.model.specs.Tables.{Queue, isPooled, taskAt}
-use Rattle.model.specs.{Sound.controlSound, Calls.act, Retries.retriesBelow, Standing.Standing}
-use Rattle.model.specs.Walk.{Walk, contents, entries, met}
+use Rattle.model.specs.{declared.{Control.Control, Entry.Entry, Record.Record, Outcome.the-variants.Refused}, Calls.act}
+use Rattle.model.specs.{Tables.{Queue, isPooled, taskAt}, Sound.controlSound, Retries.retriesBelow, Standing.Standing}
+use Rattle.model.specs.{Walk.{Walk, contents, entries, met}, History.{NoFreeSlotTrue, Taken}, Lists.{All, copies}}
 use Rattle.model.specs.History.{AfterOpeningAs, LedgerCall, Ending, Event, Lawful, Linearized, NeverUnsound, Request}
-use Rattle.model.specs.History.{answered, final, isOpen, ledger, pending, run}
-use Rattle.model.specs.History.{MarkedIn, MarkedWhile, NoSlotIn, NoSlotTrue, Taken}
-use Rattle.model.proofs.laws.Sizes.{Sizes, act-sizes, fits, sizes}
+use Rattle.model.specs.History.{answered, final, isOpen, ledger, pending, run, MarkedIn, MarkedWhile, NoFreeSlotIn}
 use Rattle.model.specs.Neighbours.{NeighboursIn, NeighboursJoined}
-use Rattle.model.proofs.{Linearizable.linearizable, LinksBack.links-back, MarksRight.marks-right, Never34.never-34, NoSlot.no-slot-either, Standing.standing}
-use Rattle.model.specs.Lists.{All, copies}
-use Rattle.stock_model.specs.Accounts.{Accounted, AccountedIn, AddedUp, Stands, StockSum, answeredLabels, hasHadEffect, heldLabels, pushedLabels, takenLabels}
-use Rattle.stock_model.specs.Accounts.{waitingLabels}
+use Rattle.model.proofs.{laws.Sizes.{Sizes, act-sizes, fits, sizes}, Linearizable.linearizable, LinksBack.links-back}
+use Rattle.model.proofs.{MarksRight.marks-right, Never34.never-34, NoFreeSlot.no-free-slot-either, Standing.standing}
+use Rattle.stock_model.specs.Accounts.{Accounted, AccountedIn, AddedUp, Stands, StockSum, answeredLabels, hasHadEffect}
+use Rattle.stock_model.specs.Accounts.{heldLabels, pushedLabels, poppedLabels, waitingLabels}
 use Rattle.stock_model.proofs.Accounts.{OpenKnown, every-label, open-known, stock-taking}
-use Rattle.shelf_model.specs.Cut.{cut}
-use Rattle.shelf_model.specs.Changeovers.{Explained, FromOpening, Past}
-use Rattle.shelf_model.proofs.{Lists.enough-take, Cut.fits-cut, Stretches.task-cut}
-use Rattle.shelf_model.proofs.CutCalls.{contents-cut, run-cut}
-use Rattle.shelf_model.proofs.InUse.{marks-alike, no-slot-alike}
-use Rattle.shelf_model.proofs.Neighbours.{neighbours-alike}
+use Rattle.shelf_model.specs.{Cut.cut, Changeovers.{Explained, FromOpening, Past}}
+use Rattle.shelf_model.proofs.{Lists.enough-take, Cut.fits-cut, Stretches.task-cut, Neighbours.neighbours-alike}
+use Rattle.shelf_model.proofs.{CutCalls.{contents-cut, run-cut}, InUse.{marks-alike, no-free-slot-alike}}
 
 below-cut : (q : Queue) (n : ℕ) → n ≤ q .tables .control .tasks → retriesBelow (cut q) n ≡ retriesBelow q n
 unfolding retriesBelow
@@ -111,8 +102,8 @@ module _ (p : Past) (q : Queue) (h : Explained p q) where
       (subst (λ (o : Queue). All (λ (e : Event). e .outcome ≡ Refused 34 → ⊥) (run o (p .since ++ os))) (sym (t .opened)) sound))
 
   -- #104, the marks and the links between neighbours.
-  pub no-slot : NoSlotIn q
-  no-slot = no-slot-alike now q (sym (h .leaves)) (past-has NoSlotTrue (no-slot-either (t .pooled)))
+  pub no-free-slot : NoFreeSlotIn q
+  no-free-slot = no-free-slot-alike now q (sym (h .leaves)) (past-has NoFreeSlotTrue (no-free-slot-either (t .pooled)))
 
   pub marks-true : MarkedIn Taken q
   marks-true = marks-alike now q (sym (h .leaves)) (past-has (MarkedWhile Taken) (marks-right (t .pooled)))
@@ -140,7 +131,7 @@ module _ (p : Past) (q : Queue) (h : Explained p q) where
       let k = past-has OpenKnown (open-known (t .pooled)) in
       let cs = ledger (run (p .opened) (p .since)) .calls in
       subst (λ (es : List Event). AccountedIn es q) (sym (t .events)) (record {
-        every-push = λ x. subst (λ (l : List ℕ). copies x (pushedLabels cs) ≡ copies x (takenLabels cs) + copies x l) same-waiting (a .every-push x);
+        every-push = λ x. subst (λ (l : List ℕ). copies x (pushedLabels cs) ≡ copies x (poppedLabels cs) + copies x l) same-waiting (a .every-push x);
         every-pop = a .every-pop;
         stands = all-alike cs k (a .stands);
       })

@@ -1,33 +1,25 @@
 -- The promises of a past hold of the queue that it leaves.
-use mathlib.Core.Bool.{Bool, true, false, not}
-use mathlib.Core.List.{List, [], _∷_}
-use mathlib.Core.Logic.{_≢_}
+use mathlib.Core.{Bool.{Bool, true, false, not}, List.{List, [], _∷_}, Logic._≢_}
 use mathlib.Core.Path.{_≡_, _∙_, ap, refl, subst, subst₂, sym}
 use Prim.Native.Nat.{ℕ, _<_, _≤_}
 use native.Mathlib.Omega.{arith}
 use lib.Dec.{eqb, leb}
 use borrow.Author.Tests.{eqb-false, leb-true, not-false}
-use Rattle.model.specs.declared.{Entry.Entry, Record.Record}
-use Rattle.model.specs.declared.Op.the-variants.{Step}
-use Rattle.model.specs.declared.Reported.the-variants as reported
-use Rattle.model.specs.Tables.{Queue, isPooled}
+use Rattle.model.specs.{declared.{Entry.Entry, Record.Record, Op.the-variants.Step}, Tables.{Queue, isPooled}}
 use Rattle.model.specs.{Sound.controlSound, Solo.soloRun, Retries.SumIsOld, Standing.Standing}
-use Rattle.model.specs.Refusals.{first, recordsFit, reportRefusal, rule}
-use Rattle.model.specs.Report.{busy, report, tell, told, waiting}
-use Rattle.model.specs.History.{Event, final, run}
-use Rattle.model.specs.Progress.{AnsweredWithin, Busy, SoloWithin, StretchTells, any, limit, steps, stretchLimit, tookEffectOrAnswered}
-use Rattle.model.proofs.tests.Rules.{_and_, never}
-use Rattle.model.proofs.tests.Truth.{not-both}
-use Rattle.model.proofs.laws.Runs.{run-refused}
-use Rattle.model.proofs.Retries.{retries-sum}
+use Rattle.model.specs.{Refusals.{first, recordsFit, reportRefusal, rule}, Report.{busy, report, tell, told, waiting}}
+use Rattle.model.specs.{History.{Event, final, run}, Progress.tookEffectOrAnswered}
+use Rattle.model.specs.Progress.{AnsweredWithin, Busy, SoloWithin, StretchProgresses, any, limit, steps, stretchLimit}
+use Rattle.model.proofs.{tests.{Rules.{_and_, never}, Truth.not-both}, laws.Runs.run-refused, Retries.retries-sum}
 use Rattle.model.proofs.StepBounds.{solo-bound, stretch-bound}
+use Rattle.model.specs.declared.Reported.the-variants as reported
 use Rattle.shelf_model.specs.Shelves.{bothHold, returnRefusal, saveRefusal, saveRules, shelfAt}
 use Rattle.shelf_model.specs.Changeovers.{Explained, Holds, Past, World, eventsOf}
 use Rattle.shelf_model.specs.Promises.{Never34, Progresses, Promised, Promises}
-use Rattle.shelf_model.proofs.Stretches.{asked, events-are, solo-alike}
-use Rattle.shelf_model.proofs.Changeovers.{changeovers}
-use Rattle.shelf_model.proofs.Pasts.{accounts, adds-up, all-served, counts, final-tasks, following-sound, marks-true, no-slot, operations-sound, past-has}
-use Rattle.shelf_model.proofs.Pasts.{neighbours-joined, same-pooled, same-run, same-task, same-tasks, stands}
+use Rattle.shelf_model.proofs.{Stretches.{requestsTo, events-are, solo-alike}, Changeovers.changeovers}
+use Rattle.shelf_model.proofs.Pasts.{accounts, adds-up, all-served, counts, final-tasks, following-sound, stands}
+use Rattle.shelf_model.proofs.Pasts.{marks-true, no-free-slot, operations-sound, past-has, neighbours-joined}
+use Rattle.shelf_model.proofs.Pasts.{same-pooled, same-run, same-task, same-tasks}
 
 -- A report where control is sound, the tables are long enough and the walk meets what waits.
 report-none : (q : Queue) (d : List Entry) → Standing q d → reportRefusal (q .tables) (recordsFit (q .tables .control .tasks) q) ≡ 0
@@ -67,11 +59,11 @@ module _ (w : World) (h : Holds w) (i : ℕ) (made : w .pasts i .made ≡ true) 
         solo-alike n _ q then t (b .known) known (told-by .leaves)
         (subst₂ (λ way (r : Record). AnsweredWithin (limit way (r .call .kind)) (soloRun n then t)) (sym pooled) (sym same) z);
     stretch = λ l u enough.
-        let same = events-are i l w u ∙ same-run p q told-by (asked i l) in
+        let same = events-are i l w u ∙ same-run p q told-by (requestsTo i l) in
         let tasks = same-tasks p q told-by ∙ final-tasks (p .since) (p .opened) in
         let long = subst₂ (λ way n. stretchLimit way n ≤ steps (eventsOf i w l)) pooled tasks enough in
         subst (λ (es : List Event). any tookEffectOrAnswered es ≡ true) (sym same)
-        (past-has p q told-by StretchTells (stretch-bound (told-by .begun .pooled)) (asked i l)
+        (past-has p q told-by StretchProgresses (stretch-bound (told-by .begun .pooled)) (requestsTo i l)
         (subst (λ (es : List Event). stretchLimit (isPooled (p .opened .tables .control)) (p .opened .tables .control .tasks) ≤ steps es) same long));
   }
 
@@ -98,7 +90,7 @@ module _ (w : World) (h : Holds w) (i : ℕ) (made : w .pasts i .made ≡ true) 
     sound = sound;
     retries = λ low. counts p q told-by ∙ past-has p q told-by SumIsOld (retries-sum (told-by .begun .pooled)) low;
     progress = progresses;
-    no-slot = no-slot p q told-by;
+    no-free-slot = no-free-slot p q told-by;
     marks = marks-true p q told-by;
     neighbours = neighbours-joined p q told-by;
     accounted = accounts p q told-by;

@@ -1,28 +1,17 @@
 -- Tasks stepped alone, and stretches of starts and steps: the queue cut to its lengths does as the queue, and savings change nothing.
-use mathlib.Core.Bool.{Bool, true, false, cond, not}
-use mathlib.Core.List.{List, [], _∷_}
-use mathlib.Core.Path.{_≡_, _∙_, ap, refl, subst, sym}
+use mathlib.Core.{Bool.{Bool, true, false, cond, not}, List.{List, [], _∷_}, Path.{_≡_, _∙_, ap, refl, subst, sym}}
 use Prim.Native.Nat.{ℕ, zero, suc, _<_}
 use lib.Dec.{eqb}
 use borrow.Author.Tests.{eq-eqb, eqb-true, not-true}
-use Rattle.model.specs.declared.Answer.the-variants.{Running}
-use Rattle.model.specs.declared.Op.the-variants.{Step}
-use Rattle.model.specs.declared.Outcome.the-variants.{Moved}
-use Rattle.model.specs.declared.Record.{Record}
-use Rattle.model.specs.Tables.{Queue, taskAt, unused}
-use Rattle.model.specs.{Refusals.openRefusal, Progress.AnsweredWithin}
-use Rattle.model.specs.Calls.{Done, act, openAs}
-use Rattle.model.specs.Ends.{isMoved, isRunning}
-use Rattle.model.specs.History.{Event, Request, run}
-use Rattle.model.specs.Solo.{SoloDone, lastStep, oneMore, resting, soloRun, soloSteps}
-use Rattle.model.proofs.tests.Truth.{and-true, split}
-use Rattle.model.proofs.laws.Sizes.{act-tasks}
-use Rattle.shelf_model.specs.Cut.{cut}
-use Rattle.shelf_model.specs.Shelves.{Shelves, returnRefusal, returned}
+use Rattle.model.specs.declared.{Answer.the-variants.Running, Op.the-variants.Step, Outcome.the-variants.Moved}
+use Rattle.model.specs.{declared.Record.Record, Tables.{Queue, taskAt, unused}, Refusals.openRefusal}
+use Rattle.model.specs.{Progress.AnsweredWithin, Calls.{Done, act, openAs}, Ends.{isMoved, isRunning}}
+use Rattle.model.specs.{History.{Event, Request, run}, Solo.{SoloDone, lastStep, oneMore, resting, soloRun, soloSteps}}
+use Rattle.model.proofs.{tests.Truth.{and-true, split}, laws.Sizes.act-tasks}
+use Rattle.shelf_model.specs.{Cut.cut, Shelves.{Shelves, returnRefusal, returned}}
 use Rattle.shelf_model.specs.Changeovers.{Action, Turn, World, asks, breaks, does, opens, returns, saves, eventOf}
 use Rattle.shelf_model.specs.Changeovers.{eventsOf, station, turned, unbroken}
-use Rattle.shelf_model.proofs.Lists.{get-take}
-use Rattle.shelf_model.proofs.CutCalls.{act-cut, cutDone}
+use Rattle.shelf_model.proofs.{Lists.get-take, CutCalls.{act-cut, cutDone}}
 
 pub task-cut : (q : Queue) (t : ℕ) → t < q .tables .control .tasks → taskAt (cut q) t ≡ taskAt q t
 task-cut q t h = get-take (q .tables .control .tasks) (q .records) t unused h
@@ -79,9 +68,9 @@ asking (asks o) os = o ∷ os
 asking (saves n) os = os
 asking (returns n) os = os
 
-unfoldable pub asked : ℕ → List Turn → List Request
-asked i [] = []
-asked i (t ∷ l) = cond (eqb i (t .queue)) (asking (t .action) (asked i l)) (asked i l)
+unfoldable pub requestsTo : ℕ → List Turn → List Request
+requestsTo i [] = []
+requestsTo i (t ∷ l) = cond (eqb i (t .queue)) (asking (t .action) (requestsTo i l)) (requestsTo i l)
 
 -- An opening or a return that is refused leaves the queue.
 pub open-refused : (q : Queue) (pooled : Bool) (tasks slots tag : ℕ) → eqb (openRefusal pooled q tasks slots) 0 ≡ false
@@ -107,20 +96,20 @@ turned-other w i t e = rw e
 
 -- They show what they show one after the other.
 abbrev EventsAre : ℕ → List Turn → World → Type 0
-EventsAre i l w = unbroken i w l ≡ true → eventsOf i w l ≡ run (w .queues i) (asked i l)
+EventsAre i l w = unbroken i w l ≡ true → eventsOf i w l ≡ run (w .queues i) (requestsTo i l)
 
 module _ (i : ℕ) (l : List Turn) (w : World) (ih : (v : World) → EventsAre i l v) where
   -- A queue that an action leaves as it was, or moves on.
   on : (a : Action) (q : Queue) → does (station w i) a .queue ≡ q → unbroken i (turned w (turn i a)) l ≡ true
-      → eventsOf i (turned w (turn i a)) l ≡ run q (asked i l)
-  on a q e u = ih (turned w (turn i a)) u ∙ ap (λ (q : Queue). run q (asked i l)) (turned-own w i a ∙ e)
+      → eventsOf i (turned w (turn i a)) l ≡ run q (requestsTo i l)
+  on a q e u = ih (turned w (turn i a)) u ∙ ap (λ (q : Queue). run q (requestsTo i l)) (turned-own w i a ∙ e)
 
   whole : (a : Action) → unbroken i w (turn i a ∷ l) ≡ true → (not (breaks (station w i) a) ≡ true) × (unbroken i (turned w (turn i a)) l ≡ true)
   unfolding unbroken
   whole a u = and-true (not (breaks (station w i) a)) (unbroken i (turned w (turn i a)) l) (rw (eq-eqb i i refl) at u)
 
   own : (a : Action) → EventsAre i (turn i a ∷ l) w
-  unfolding eventsOf asked run does
+  unfolding eventsOf requestsTo run does
   own (opens pooled tasks slots tag) u =
       let z = whole (opens pooled tasks slots tag) u in
       rw (eq-eqb i i refl) (on (opens pooled tasks slots tag) (w .queues i) (open-refused (w .queues i) pooled tasks slots tag (not-true _ (z .0))) (z .1))
@@ -132,11 +121,11 @@ module _ (i : ℕ) (l : List Turn) (w : World) (ih : (v : World) → EventsAre i
       rw (eq-eqb i i refl) (on (returns n) (w .queues i) (return-refused (w .queues i) (w .shelves) n (not-true _ (z .0))) (z .1))
 
   others : (t : Turn) → eqb i (t .queue) ≡ false → EventsAre i (t ∷ l) w
-  unfolding eventsOf asked unbroken
-  others t e u = rw e (ih (turned w t) (rw e at u) ∙ ap (λ (q : Queue). run q (asked i l)) (turned-other w i t e))
+  unfolding eventsOf requestsTo unbroken
+  others t e u = rw e (ih (turned w t) (rw e at u) ∙ ap (λ (q : Queue). run q (requestsTo i l)) (turned-other w i t e))
 
 pub events-are : (i : ℕ) (l : List Turn) (w : World) → EventsAre i l w
-unfolding eventsOf asked run
+unfolding eventsOf requestsTo run
 events-are i [] w = λ u. refl
 events-are i (t ∷ l) w = split (eqb i (t .queue))
     (λ e. subst (λ j. EventsAre i (turn j (t .action) ∷ l) w) (eqb-true _ _ e) (own i l w (events-are i l) (t .action)))

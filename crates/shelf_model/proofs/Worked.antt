@@ -1,11 +1,8 @@
 -- The numbers of the refusals in their order, whatever the queue and the shelves; and shelves as they are first lent. (Document 02, #109.)
-use mathlib.Core.Path.{_≡_, refl}
-use mathlib.Core.Bool.{false}
-use mathlib.Core.List.{List, [], _∷_}
+use mathlib.Core.{Path.{_≡_, refl}, Bool.false, List.{List, [], _∷_}}
 use Prim.Native.Nat.{ℕ, zero, suc}
 use lib.ListN.{getD, replicate}
-use Rattle.model.specs.declared.{Control.Control, Record.Record}
-use Rattle.model.specs.Tables.{Queue, openedControl, withWords}
+use Rattle.model.specs.{declared.{Control.Control, Record.Record}, Tables.{Queue, openedControl, withWords}}
 use Rattle.model.proofs.laws.Order.{numbers}
 use Rattle.shelf_model.specs.Shelves.{Shelves, unfilled, saveRules, returnRules, returnRefusal}
 use Rattle.shelf_model.specs.Changeovers.{Unfilled}

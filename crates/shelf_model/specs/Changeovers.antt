@@ -1,13 +1,9 @@
 -- Histories with openings, savings and returns. (Document 02, #109.)
-use mathlib.Core.{Path._≡_, Logic._≢_}
-use mathlib.Core.Bool.{Bool, true, false, _&&_, cond, not}
-use mathlib.Core.List.{List, [], _∷_, _++_}
+use mathlib.Core.{Path._≡_, Logic._≢_, Bool.{Bool, true, false, _&&_, cond, not}, List.{List, [], _∷_, _++_}}
 use Prim.Native.Nat.{ℕ, _≤_}
 use lib.{Dec.eqb, ListN.getD}
-use Rattle.model.specs.declared.Opening.the-variants.{Opened}
-use Rattle.model.specs.{Tables.Queue, Sound.controlSound, Refusals.openRefusal}
-use Rattle.model.specs.Calls.{openAs, act}
-use Rattle.model.specs.History.{Request, Event, run, final}
+use Rattle.model.specs.{declared.Opening.the-variants.Opened, Tables.Queue, Sound.controlSound, Refusals.openRefusal}
+use Rattle.model.specs.{Calls.{openAs, act}, History.{Request, Event, run, final}}
 use Rattle.shelf_model.specs.Cut.{cut}
 use Rattle.shelf_model.specs.Shelves.{Shelves, shelfAt, unfilled, saveRefusal, saved, returnRefusal, returned}
 
@@ -146,13 +142,13 @@ pub record FromOpening (p : Past) : Type 0 where
   pub events : p .events ≡ run (p .opened) (p .since)
 
 -- A queue is, within its lengths, what its past leaves.
-abbrev pub LeftBy : Past → Queue → Type 0
-LeftBy p q = cut q ≡ cut (final (p .opened) (p .since))
+abbrev pub StandsAfter : Past → Queue → Type 0
+StandsAfter p q = cut q ≡ cut (final (p .opened) (p .since))
 
 -- A queue has a past that begins with an accepted opening and that leaves it.
 pub record Explained (p : Past) (q : Queue) : Type 0 where
   pub begun : FromOpening p
-  pub leaves : LeftBy p q
+  pub leaves : StandsAfter p q
 
 -- Every queue that is made has one, and so has every queue on a filled shelf that was made when it was saved. A filled shelf is sound.
 pub record Holds (w : World) : Type 0 where

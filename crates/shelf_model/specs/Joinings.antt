@@ -1,11 +1,8 @@
 -- Histories with joinings among openings, starts, steps, savings and returns. (Document 02, #113 and #114.)
-use mathlib.Core.Bool.{Bool, true, false, _&&_, cond, not}
-use mathlib.Core.Path.{_≡_}
-use mathlib.Core.List.{List, [], _∷_, _++_}
+use mathlib.Core.{Bool.{Bool, true, false, _&&_, cond, not}, Path._≡_, List.{List, [], _∷_, _++_}}
 use Prim.Native.Nat.{ℕ, _≤_}
 use lib.Dec.{eqb}
-use Rattle.model.specs.Tables.{Queue, isPooled}
-use Rattle.model.specs.History.{Event, Request, run}
+use Rattle.model.specs.{Tables.{Queue, isPooled}, History.{Event, Request, run}}
 use Rattle.model.specs.Progress.{any, steps, stretchLimit, tookEffectOrAnswered}
 use Rattle.join_model.specs.Join.{join, joinRefusal, lanes, pushes}
 use Rattle.shelf_model.specs.Changeovers.{Past, Turn, Unfilled, World, breaks, station, turned, withEvent}

@@ -2,15 +2,12 @@
 use mathlib.Core.{Path._≡_, Bool.true, List.List, Logic._≢_}
 use Prim.Native.Nat.{ℕ, _<_, _≤_}
 use lib.ListN.{length}
-use Rattle.model.specs.declared.Outcome.the-variants.{Refused}
-use Rattle.model.specs.declared.Report.{Report}
-use Rattle.model.specs.declared.Reported.the-variants as reported
-use Rattle.model.specs.Tables.{Queue, isPooled, recordAt}
-use Rattle.model.specs.Walk.{contents, entries}
-use Rattle.model.specs.{Standing.Standing, Report.report, Solo.soloRun, Lists.All, Neighbours.NeighboursIn}
-use Rattle.model.specs.History.{LedgerCall, Event, Lawful, MarkedIn, NoSlotIn, Request, Taken, ledger, run}
+use Rattle.model.specs.{declared.{Outcome.the-variants.Refused, Report.Report}, Tables.{Queue, isPooled, recordAt}}
+use Rattle.model.specs.{Walk.{contents, entries}, Standing.Standing, Report.report, Solo.soloRun, Lists.All}
+use Rattle.model.specs.{Neighbours.NeighboursIn, Retries.{oldCount, retriesBelow}}
+use Rattle.model.specs.History.{LedgerCall, Event, Lawful, MarkedIn, NoFreeSlotIn, Request, Taken, ledger, run}
 use Rattle.model.specs.Progress.{AnsweredWithin, Busy, any, limit, steps, stretchLimit, tookEffectOrAnswered}
-use Rattle.model.specs.Retries.{oldCount, retriesBelow}
+use Rattle.model.specs.declared.Reported.the-variants as reported
 use Rattle.stock_model.specs.Accounts.{AccountedIn, AddedUp}
 use Rattle.shelf_model.specs.Shelves.{returnRefusal, saveRefusal}
 use Rattle.shelf_model.specs.Changeovers.{AfterTurns, Explained, Turn, World, eventsOf, unbroken}
@@ -49,7 +46,7 @@ pub record Promised (w : World) (i : ℕ) : Type 0 where
       → retriesBelow (w .queues i) (w .queues i .tables .control .tasks) ≡ oldCount 0 (p .opened) (p .since)
   pub progress : Progresses w i
   -- #104: *no slot* means that every slot is waiting or held.
-  pub no-slot : NoSlotIn (w .queues i)
+  pub no-free-slot : NoFreeSlotIn (w .queues i)
   -- A slot's mark is set exactly while the slot is taken.
   pub marks : MarkedIn Taken (w .queues i)
   -- Only at the end that the status names may the neighbour's link back be unfinished.

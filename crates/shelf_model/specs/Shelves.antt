@@ -1,13 +1,9 @@
 -- Saving a queue on a shelf and returning to it. (Document 02, #109.)
-use mathlib.Core.Bool.{Bool, _&&_, cond, not}
-use mathlib.Core.List.{List, [], _∷_, _++_}
+use mathlib.Core.{Bool.{Bool, _&&_, cond, not}, List.{List, [], _∷_, _++_}}
 use Prim.Native.Nat.{ℕ, suc, _+_, _*_, _/_}
-use lib.Dec.{eqb, leb}
-use lib.ListN.{getD, length, set, take, drop}
-use Rattle.model.specs.declared.{Control.Control, Record.Record}
-use Rattle.model.specs.Tables.{Queue, isPooled, tablesOf, queueOf, unopened}
-use Rattle.model.specs.Sound.{controlSound, rowsFit}
-use Rattle.model.specs.Refusals.{Rule, first, recordsFit, rule}
+use lib.{Dec.{eqb, leb}, ListN.{getD, length, set, take, drop}}
+use Rattle.model.specs.{declared.{Control.Control, Record.Record}, Sound.{controlSound, rowsFit}}
+use Rattle.model.specs.{Tables.{Queue, isPooled, tablesOf, queueOf, unopened}, Refusals.{Rule, first, recordsFit, rule}}
 
 -- Eight shelves, lent as flat tables; of controls there is one a shelf.
 pub record Shelves : Type 0 where

@@ -1,16 +1,12 @@
 -- What a step is asked of control and lengths, one test after the other: the first rule that applies.
-use mathlib.Core.Path.{_≡_, refl, sym, _∙_}
-use mathlib.Core.Bool.{Bool, true, false, _&&_, _||_, not, cond, and-assoc, and-true, and-false}
-use mathlib.Core.Logic.{_≢_}
-use Prim.Native.Nat.{ℕ, _/_}
+use mathlib.Core.{Path.{_≡_, refl, sym, _∙_}, Bool.{Bool, true, false, _&&_, _||_, not, cond, and-false}, Logic._≢_}
+use Prim.Native.Nat.{ℕ}
 use native.Mathlib.Omega.{arith}
 use lib.Dec.{leb, ltb, eqb}
 use Rattle.word.specs.Anchor.{anchorOf}
-use Rattle.model.specs.declared.Control.{Control}
-use Rattle.model.specs.Sound.{from1, anchorSound, controlSound}
+use Rattle.model.specs.{declared.Control.Control, Sound.{from1, anchorSound, controlSound}}
 use Rattle.model.specs.Refusals.{first, tableRules}
-use Rattle.sound.specs.declared.Lengths.{Lengths}
-use Rattle.sound.specs.Lengths.{lengthsFit, nextRules}
+use Rattle.sound.specs.{declared.Lengths.Lengths, Lengths.{lengthsFit, nextRules}}
 
 -- Control's tests up to the first that fails; where the first three hold, the word for pooled decides.
 module _ (c : Control) (fit : Bool) where
@@ -50,11 +46,9 @@ module _ (pooled : Bool) (slots : ℕ) (t : Lengths) (enough : Bool) where
   unfolding lengthsFit
   short e = rw e (simp and-false)
 
-  pub long : (not pooled || ltb slots (t .next)) ≡ true
-      → ((((ltb slots (t .lefts) && ltb slots (t .rights)) && ltb slots (t .labels)) && ltb (slots / 64) (t .marks)) && enough)
-      ≡ (lengthsFit pooled slots t && enough)
+  pub long : (not pooled || ltb slots (t .next)) ≡ true → (lengthsFit false slots t && enough) ≡ (lengthsFit pooled slots t && enough)
   unfolding lengthsFit
-  long e = rw e (simp (and-assoc, and-true))
+  long e = rw e
 
 -- Control is sound but for the word for pooled: that and the next table are asked.
 module _ (c : Control) (t : Lengths) (enough : Bool) (why : ℕ) (e : why ≡ first (nextRules (c .pooled) (c .slots) (t .next)))
@@ -65,8 +59,7 @@ module _ (c : Control) (t : Lengths) (enough : Bool) (why : ℕ) (e : why ≡ fi
       (refuses (leb (c .pooled) 1) (not (eqb (c .pooled) 1) || ltb (c .slots) (t .next)) (lengthsFit (eqb (c .pooled) 1) (c .slots) t && enough) why
       (short (eqb (c .pooled) 1) (c .slots) t enough) e other)
 
-  pub by-rows : (b : Bool) → why ≡ 0
-      → ((((ltb (c .slots) (t .lefts) && ltb (c .slots) (t .rights)) && ltb (c .slots) (t .labels)) && ltb (c .slots / 64) (t .marks)) && enough) ≡ b
+  pub by-rows : (b : Bool) → why ≡ 0 → (lengthsFit false (c .slots) t && enough) ≡ b
       → cond b 0 12 ≡ first (tableRules c (lengthsFit (eqb (c .pooled) 1) (c .slots) t && enough))
   by-rows b none test =
       let z = passes (leb (c .pooled) 1) (not (eqb (c .pooled) 1) || ltb (c .slots) (t .next)) why e none in

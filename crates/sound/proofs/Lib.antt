@@ -2,8 +2,9 @@ pub mod Ends
 pub mod Seen
 pub mod Parts
 pub mod Places
-pub mod Early
-pub mod Late
+pub mod DequePlaces
+pub mod SlotPlaces
 pub mod Links
 pub mod Measured
 pub mod Asked
+pub mod Refused

@@ -1,11 +1,9 @@
 -- A link word's lower half as one number: its slot, where no spare bit is set.
-use mathlib.Core.Path.{_≡_, refl, sym, subst, _∙_}
-use mathlib.Core.Bool.{Bool, true, false, _&&_, and-false}
-use mathlib.Core.Logic.{_⊎_, inl, inr}
+use mathlib.Core.{Path.{_≡_, refl, sym, subst, _∙_}, Bool.{Bool, true, false, _&&_, and-false}, Logic.{_⊎_, inl, inr}}
 use Prim.Native.Nat.{ℕ, _<_, _≤_, _%_, _/_, min}
 use native.Mathlib.Omega.{arith}
 use lib.Dec.{leb, ltb, eqb}
-use borrow.Author.Tests.{eqb-true, eqb-false, ltb-true, ltb-false, leb-true, leb-false, le-leb, lt-leb}
+use borrow.Author.Tests.{eqb-true, eqb-false, ltb-true, ltb-false, le-leb, lt-leb}
 use Rattle.word.specs.Link.{linkOf, spareOf}
 use Rattle.model.specs.Sound.{linkSound}
 use Rattle.sound.specs.Records.{readSound}

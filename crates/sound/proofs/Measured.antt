@@ -1,11 +1,8 @@
 -- The test of the lengths is the document's rule on the tables.
-use mathlib.Core.Path.{_≡_, refl, ap, _∙_}
-use mathlib.Core.Bool.{Bool}
+use mathlib.Core.{Path.{_≡_, refl, ap, _∙_}, Bool.Bool}
 use Prim.Native.Nat.{ℕ}
-use Rattle.model.specs.Tables.{Tables}
-use Rattle.model.specs.Sound.{rowsFit}
-use Rattle.sound.specs.declared.Lengths.{Lengths}
-use Rattle.sound.specs.Lengths.{lengthsOf, Measures, lengthsFit}
+use Rattle.model.specs.{Tables.Tables, Sound.rowsFit}
+use Rattle.sound.specs.{declared.Lengths.Lengths, Lengths.{lengthsOf, Measures, lengthsFit}}
 
 pub lengths-fit : (pooled : Bool) (slots : ℕ) (q : Tables) (n : ℕ) → lengthsFit pooled slots (lengthsOf q n) ≡ rowsFit pooled slots q
 unfolding lengthsFit rowsFit

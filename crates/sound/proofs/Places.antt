@@ -6,10 +6,8 @@ use native.Mathlib.Omega.{arith}
 use lib.Dec.{leb, eqb}
 use borrow.Author.Tests.{eq-eqb, ne-eqb, eqb-true, eqb-false, le-leb, lt-leb}
 use Rattle.word.specs.Link.{linkOf}
-use Rattle.model.specs.declared.Call.{Call}
-use Rattle.model.specs.Sound.{from1}
-use Rattle.model.specs.Kinds.{helping}
-use Rattle.sound.proofs.Parts.{callSound}
+use Rattle.model.specs.{declared.Call.Call, Sound.from1, Kinds.helping}
+use Rattle.sound.proofs.Parts.{callTestsPass}
 
 -- 0 is at most 1, and so is 1.
 zero-most : (n : ℕ) (b : Bool) → (leb n 1 && (eqb n 0 && b)) ≡ (eqb n 0 && b)
@@ -36,8 +34,8 @@ module _ (slots : ℕ) (r : Call) where
   within = leb (r .place) 17 && leb (r .side) 1 && eqb (r .finishing) 0
 
   pub at-draw : 11 < r .place → r .place ≤ 14
-      → (within && eqb (r .kind) 0 && eqb (r .own) 0 && (eqb (r .place) 12 || not (eqb (linkOf (r .link) .slot) 0))) ≡ callSound true slots r
-  unfolding callSound
+      → (within && eqb (r .kind) 0 && eqb (r .own) 0 && (eqb (r .place) 12 || not (eqb (linkOf (r .link) .slot) 0))) ≡ callTestsPass true slots r
+  unfolding callTestsPass
   at-draw low high =
       rw (
         lt-leb 15 (r .place) (omega arith),
@@ -60,11 +58,11 @@ module _ (slots : ℕ) (r : Call) where
           rw (le-leb (r .kind) 1 (omega arith)) (simp (and-assoc, or-false, zero-most))
       by-kind false e named = simp (and-assoc, and-false)
 
-  pub at-give : 14 < r .place → (within && eqb (r .kind) 1 && from1 slots (r .own)) ≡ callSound true slots r
-  unfolding callSound
+  pub at-give : 14 < r .place → (within && eqb (r .kind) 1 && from1 slots (r .own)) ≡ callTestsPass true slots r
+  unfolding callTestsPass
   at-give low = by-kind (eqb (r .kind) 1) refl
     where
-      by-kind : (pop : Bool) → eqb (r .kind) 1 ≡ pop → (within && eqb (r .kind) 1 && from1 slots (r .own)) ≡ callSound true slots r
+      by-kind : (pop : Bool) → eqb (r .kind) 1 ≡ pop → (within && eqb (r .kind) 1 && from1 slots (r .own)) ≡ callTestsPass true slots r
       by-kind true e =
           let h : r .kind ≡ 1 = eqb-true (r .kind) 1 e in
           rw (
@@ -87,8 +85,8 @@ module _ (slots : ℕ) (r : Call) where
 
     pub at-push : r .kind ≡ 0
         → (leb (r .side) 1 && leb (r .finishing) 1 && not (eqb (r .place) 11) && (eqb (r .finishing) 0 || helping r) && from1 slots (r .own))
-        ≡ callSound pooled slots r
-    unfolding callSound
+        ≡ callTestsPass pooled slots r
+    unfolding callTestsPass
     at-push e =
         rw (
           below pooled,
@@ -104,13 +102,13 @@ module _ (slots : ℕ) (r : Call) where
 
     pub at-other : (r .kind ≡ 0 → ⊥)
         → (leb (r .side) 1 && leb (r .finishing) 1 && eqb (r .kind) 1 && eqb (r .finishing) 0 && eqb (r .own) 0)
-        ≡ callSound pooled slots r
-    unfolding callSound
+        ≡ callTestsPass pooled slots r
+    unfolding callTestsPass
     at-other other = by-kind (eqb (r .kind) 1) refl
       where
         by-kind : (pop : Bool) → eqb (r .kind) 1 ≡ pop
             → (leb (r .side) 1 && leb (r .finishing) 1 && eqb (r .kind) 1 && eqb (r .finishing) 0 && eqb (r .own) 0)
-            ≡ callSound pooled slots r
+            ≡ callTestsPass pooled slots r
         by-kind true e =
             rw (
               e,
@@ -127,7 +125,7 @@ module _ (slots : ℕ) (r : Call) where
             rw (e, lt-leb (r .kind) 1 (let h : r .kind ≡ 1 → ⊥ = eqb-false (r .kind) 1 e in omega arith)) (simp and-false)
 
   -- Beyond 11 only a pooled queue's record is sound.
-  pub beyond : (pooled : Bool) → 11 < r .place → (pooled && callSound true slots r) ≡ callSound pooled slots r
-  unfolding callSound
+  pub beyond : (pooled : Bool) → 11 < r .place → (pooled && callTestsPass true slots r) ≡ callTestsPass pooled slots r
+  unfolding callTestsPass
   beyond true low = refl
   beyond false low = rw (lt-leb (r .place) 11 low)

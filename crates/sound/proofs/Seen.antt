@@ -1,14 +1,12 @@
 -- The tests of an Anchor word that was read, one by one: the left end no slot, no status, then from place 5 on, equal ends, different ones.
-use mathlib.Core.Path.{_≡_, refl, sym, ap}
-use mathlib.Core.Bool.{Bool, true, false, _&&_, not, cond, and-true, and-false}
+use mathlib.Core.{Path.{_≡_, refl, sym, ap}, Bool.{Bool, true, false, _&&_, not, cond, and-true, and-false}}
 use Prim.Native.Nat.{ℕ, _+_, _*_, _<_, _≤_, _%_, _/_}
 use native.Mathlib.Omega.{arith}
 use lib.Dec.{leb, eqb}
 use borrow.Author.Tests.{eq-eqb, ne-eqb, eqb-true, eqb-false, le-leb, lt-leb}
-use Rattle.word.specs.declared.Anchor.{Anchor}
-use Rattle.word.specs.Anchor.{anchorOf}
+use Rattle.word.specs.{declared.Anchor.Anchor, Anchor.anchorOf}
 use Rattle.model.specs.Sound.{from1}
-use Rattle.sound.specs.Records.{earlySeen}
+use Rattle.sound.specs.Records.{dequeSeen}
 
 second : (x y : Bool) → x && y ≡ true → y ≡ true
 second true y e = e
@@ -20,17 +18,17 @@ beyond : (slots n : ℕ) → from1 slots n ≡ false → 1 ≤ n → leb n slots
 beyond slots n none some = rw (le-leb 1 n some) at none
 
 module _ (slots place : ℕ) (a : Anchor) where
-  pub null-late : from1 slots (a .left) ≡ false → 5 ≤ place → false ≡ earlySeen slots place a
-  unfolding earlySeen
-  null-late none late = rw (none, le-leb 5 place late) (go (eqb (a .left) (a .right)))
+  pub null-unstable : from1 slots (a .left) ≡ false → 5 ≤ place → false ≡ dequeSeen slots place a
+  unfolding dequeSeen
+  null-unstable none late = rw (none, le-leb 5 place late) (go (eqb (a .left) (a .right)))
     where
       go : (t : Bool) → false ≡ cond t false false
       go true = refl
       go false = refl
 
   module _ (l : from1 slots (a .left) ≡ true) where
-    pub no-status : a .status ≡ 3 → false ≡ earlySeen slots place a
-    unfolding earlySeen
+    pub no-status : a .status ≡ 3 → false ≡ dequeSeen slots place a
+    unfolding dequeSeen
     no-status e =
         rw (l, lt-leb (a .status) 2 (omega (arith, e)), ne-eqb (a .status) 0 (omega (arith, e))) (go (eqb (a .left) (a .right)) (leb 5 place))
       where
@@ -39,8 +37,8 @@ module _ (slots place : ℕ) (a : Anchor) where
         go false true = simp and-false
         go false false = simp and-false
 
-    pub equal-soon : a .left ≡ a .right → place < 5 → eqb (a .status) 0 ≡ earlySeen slots place a
-    unfolding earlySeen
+    pub equal-soon : a .left ≡ a .right → place < 5 → eqb (a .status) 0 ≡ dequeSeen slots place a
+    unfolding dequeSeen
     equal-soon same soon =
         rw (eq-eqb _ _ same, lt-leb 5 place soon, second (leb 1 (a .left)) (leb (a .left) slots) l) (sym (and-true (eqb (a .status) 0)))
 
@@ -49,8 +47,8 @@ module _ (slots place : ℕ) (a : Anchor) where
       low = let s : a .status ≡ w / 1073741824 % 4 = ap (λ (a : Anchor). a .status) is in omega (arith, s, used)
 
       pub late : 5 ≤ place
-          → ((not (eqb (a .left) (a .right)) && from1 slots (a .right)) && not (eqb (a .status) 0)) ≡ earlySeen slots place a
-      unfolding earlySeen
+          → ((not (eqb (a .left) (a .right)) && from1 slots (a .right)) && not (eqb (a .status) 0)) ≡ dequeSeen slots place a
+      unfolding dequeSeen
       late from5 = rw (l, le-leb 5 place from5, le-leb (a .status) 2 low) (by-tests (eqb (a .left) (a .right)) (eqb (a .status) 0) refl)
         where
           by-tests : (t s : Bool) → eqb (a .status) 0 ≡ s
@@ -59,13 +57,13 @@ module _ (slots place : ℕ) (a : Anchor) where
           by-tests false true e = let stable : a .status ≡ 0 = eqb-true _ _ e in rw (lt-leb 1 (a .status) (omega (arith, stable)))
           by-tests false false e = let unstable : a .status ≡ 0 → ⊥ = eqb-false _ _ e in rw (le-leb 1 (a .status) (omega (arith, unstable)))
 
-      pub apart-soon : (a .left ≡ a .right → ⊥) → place < 5 → from1 slots (a .right) ≡ earlySeen slots place a
-      unfolding earlySeen
+      pub apart-soon : (a .left ≡ a .right → ⊥) → place < 5 → from1 slots (a .right) ≡ dequeSeen slots place a
+      unfolding dequeSeen
       apart-soon other soon = rw (ne-eqb _ _ other, l, lt-leb 5 place soon, le-leb (a .status) 2 low) (sym (and-true _))
 
   -- The left end is no slot: all of the lower half is 0, or the word is unsound.
-  pub null-soon : (w : ℕ) → a ≡ anchorOf w → from1 slots (a .left) ≡ false → place < 5 → eqb (w % 4294967296) 0 ≡ earlySeen slots place a
-  unfolding earlySeen
+  pub null-soon : (w : ℕ) → a ≡ anchorOf w → from1 slots (a .left) ≡ false → place < 5 → eqb (w % 4294967296) 0 ≡ dequeSeen slots place a
+  unfolding dequeSeen
   null-soon w is none soon = rw (none, lt-leb 5 place soon) (by-ends (eqb (a .left) (a .right)) refl)
     where
       left : a .left ≡ w / 32768 % 32768

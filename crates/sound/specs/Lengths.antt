@@ -1,14 +1,8 @@
 -- Which tables are long enough, by their lengths.
-use mathlib.Core.Path.{_≡_}
-use mathlib.Core.Bool.{Bool, _&&_, _||_, not}
-use mathlib.Core.List.{List, [], _∷_}
+use mathlib.Core.{Path._≡_, Bool.{Bool, _&&_, _||_, not}, List.{List, [], _∷_}}
 use Prim.Native.Nat.{ℕ, _/_}
-use lib.Dec.{leb, ltb, eqb}
-use lib.ListN.{length}
-use Rattle.model.specs.declared.Control.{Control}
-use Rattle.model.specs.Tables.{Tables, isPooled}
-use Rattle.model.specs.Refusals.{Rule, rule, Lent}
-use Rattle.model.specs.Lists.{every}
+use lib.{Dec.{leb, ltb, eqb}, ListN.length}
+use Rattle.model.specs.{declared.Control.Control, Tables.{Tables, isPooled}, Refusals.{Rule, rule, Lent}, Lists.every}
 use Rattle.sound.specs.declared.Lengths.{Lengths}
 
 -- The lengths of tables, with so many records; and that some lengths are those of the tables.

@@ -2,10 +2,8 @@
 // applies, or 0. The tables are given by their lengths.
 use crate::Lengths;
 use model::Control;
-ghost use mathlib.Core.Path.{_≡_};
-ghost use mathlib.Core.Bool.{_&&_};
-ghost use Rattle.model.specs.Tables.{isPooled};
-ghost use Rattle.model.specs.Refusals.{first, tableRules, admission, alone};
+ghost use mathlib.Core.{Path._≡_, Bool._&&_};
+ghost use Rattle.model.specs.{Tables.isPooled, Refusals.{first, tableRules, admission, alone}};
 ghost use Rattle.sound.specs.Lengths.{lengthsFit, tablesFit, amongMany, nextRules};
 
 /// 34 for control and Anchor, and 12.
@@ -62,9 +60,7 @@ fn step_refusal(c: Control, enough: bool, t: Lengths) -> u32
     if why != 0 {
         return why;
     }
-    let last = c.slots as usize;
-    let links = (last < t.lefts) & (last < t.rights);
-    if links & (last < t.labels) & (last / 64 < t.marks) & enough {
+    if crate::rows_fit(false, c.slots, t) & enough {
         0
     } else {
         12

@@ -1,20 +1,15 @@
 -- Every label accounted for, after any list from any accepted opening.
-use mathlib.Core.Bool.{true}
-use mathlib.Core.List.{List, [], _∷_, map}
-use mathlib.Core.Path.{_≡_, ap, subst, sym}
+use mathlib.Core.{Bool.true, List.{List, [], _∷_, map}, Path.{_≡_, ap, subst, sym}}
 use Prim.Native.Nat.{ℕ, _+_, _<_}
 use native.Mathlib.Omega.{arith}
-use Rattle.model.specs.declared.Entry.{Entry}
-use Rattle.model.specs.{Tables.Queue, Lists.All}
-use Rattle.model.specs.Walk.{contents, entries, met}
-use Rattle.model.specs.Calls.{openAs, opened}
-use Rattle.model.specs.History.{AfterOpening, Event, LedgerCall, Ending, Lawful, Request, answered, final, isOpen, ledger, pending, run}
-use Rattle.model.proofs.ledger.EveryOperation.{run-good}
-use Rattle.model.proofs.ledger.Opened.{nobody, open-good, some-slots}
-use Rattle.model.proofs.unsound.Runs.{run-safe}
-use Rattle.model.proofs.{Linearizable.linearizable, Never34.open-safe, Openings.after-opening}
-use Rattle.stock_model.specs.Accounts.{AccountedIn, AddedUp, EveryLabel, Stands, StockTaking, answeredBy, answeredLabels, each, heldBy, heldLabels}
-use Rattle.stock_model.specs.Accounts.{pushedLabels, takenBy, takenLabels, waitingLabels}
+use Rattle.model.specs.{declared.Entry.Entry, Tables.Queue, Lists.All, Walk.{contents, entries, met}}
+use Rattle.model.specs.{Calls.{openAs, opened}, History.{ledger, pending}}
+use Rattle.model.specs.History.{AfterOpening, Event, LedgerCall, Ending, Lawful, Request, answered, final, isOpen, run}
+use Rattle.model.proofs.{ledger.{EveryOperation.run-good, Opened.{nobody, open-good, some-slots}}, Never34.open-safe}
+use Rattle.model.proofs.{unsound.Runs.run-safe, Linearizable.linearizable, Openings.after-opening}
+use Rattle.stock_model.specs.Accounts.{AccountedIn, AddedUp, EveryLabel, Stands, StockTaking, answeredBy, each}
+use Rattle.stock_model.specs.Accounts.{answeredLabels, heldBy, heldLabels, pushedLabels, poppedBy, poppedLabels}
+use Rattle.stock_model.specs.Accounts.{waitingLabels}
 use Rattle.stock_model.proofs.Balance.{all-fit, balanced, only, weigh, weigh-all, weigh-more, weigh-only}
 use Rattle.stock_model.proofs.Held.{every-known, every-stands}
 
@@ -23,12 +18,12 @@ AllLawful cs = All (λ (c : LedgerCall). Lawful c (c .ending)) cs
 
 module _ (w : ℕ → ℕ) where
   -- A lawful call: what its effect took is what it answered, or what it holds.
-  split-one : (c : LedgerCall) (e : Ending) → Lawful c e → weigh w (takenBy c) ≡ weigh w (answeredBy e) + weigh w (heldBy c e)
+  split-one : (c : LedgerCall) (e : Ending) → Lawful c e → weigh w (poppedBy c) ≡ weigh w (answeredBy e) + weigh w (heldBy c e)
   unfolding each weigh
   split-one c pending h = omega arith
   split-one c (answered n a) h = rw (h .only, h .agrees) (simp weigh-more (omega arith))
 
-  split-all : (cs : List LedgerCall) → AllLawful cs → weigh w (takenLabels cs) ≡ weigh w (answeredLabels cs) + weigh w (heldLabels cs)
+  split-all : (cs : List LedgerCall) → AllLawful cs → weigh w (poppedLabels cs) ≡ weigh w (answeredLabels cs) + weigh w (heldLabels cs)
   unfolding each weigh
   split-all [] h = omega arith
   split-all (c ∷ cs) h = simp weigh-more (omega (arith, split-one c (c .ending) (h .0), split-all cs (h .1)))
@@ -37,14 +32,14 @@ module _ (w : ℕ → ℕ) where
   abbrev AddsUp : List Event → Queue → Type 0
   AddsUp es q =
       let cs = ledger es .calls in
-      (weigh w (pushedLabels cs) ≡ weigh w (takenLabels cs) + weigh w (waitingLabels (q .tables)))
-      × (weigh w (takenLabels cs) ≡ weigh w (answeredLabels cs) + weigh w (heldLabels cs))
+      (weigh w (pushedLabels cs) ≡ weigh w (poppedLabels cs) + weigh w (waitingLabels (q .tables)))
+      × (weigh w (poppedLabels cs) ≡ weigh w (answeredLabels cs) + weigh w (heldLabels cs))
 
   adds-up : (es : List Event) (q : Queue) → AllLawful (ledger es .calls) → contents (q .tables) ≡ entries (ledger es .deque) → AddsUp es q
   unfolding each weigh
   adds-up es q lawful waits =
       let l = ledger es in (
-        subst (λ (m : List Entry). weigh w (pushedLabels (l .calls)) ≡ weigh w (takenLabels (l .calls)) + weigh w (map (λ (e : Entry). e .label) m))
+        subst (λ (m : List Entry). weigh w (pushedLabels (l .calls)) ≡ weigh w (poppedLabels (l .calls)) + weigh w (map (λ (e : Entry). e .label) m))
             (sym (ap met waits)) (balanced w 1 nobody es (omega arith)),
         split-all (l .calls) lawful,
       )

@@ -1,20 +1,16 @@
 -- What the effects in a ledger add up to, whatever its events: labels pushed are labels taken and labels in the deque.
-use mathlib.Core.Bool.{Bool, _&&_, cond}
-use mathlib.Core.List.{List, [], _∷_, _++_, map, reverse, reverse-cons}
-use mathlib.Core.Logic.{_≢_}
+use mathlib.Core.{Bool.{Bool, _&&_, cond}, List.{List, [], _∷_, _++_, map, reverse, reverse-cons}, Logic._≢_}
 use mathlib.Core.Path.{_≡_, _∙_, ap, refl, sym}
 use Prim.Native.Nat.{ℕ, _+_}
 use native.Mathlib.Omega.{arith}
 use lib.{Dec.eqb, ListN.length}
 use borrow.Author.Tests.{eqb-false, eqb-true}
-use Rattle.model.specs.declared.{Answer.Answer, Entry.Entry, Op.Op, Outcome.Outcome}
-use Rattle.model.specs.declared.Op.the-variants.{Push, Pop, PushPooled, Step}
-use Rattle.model.specs.declared.Outcome.the-variants.{Refused, Moved}
+use Rattle.model.specs.declared.{Answer.Answer, Entry.Entry, Op.{Op, the-variants.{Push, Pop, PushPooled, Step}}}
+use Rattle.model.specs.{declared.Outcome.{Outcome, the-variants.{Refused, Moved}}, Lists.{All, copies}}
 use Rattle.model.specs.Deque.{Served, seenFrom, serve, serveFor, servePop, servePush, takeFirst}
-use Rattle.model.specs.History.{LedgerCall, Effect, Event, Ledger, accept, attend, isEffect, isOpen, lacksSlot, ledgerFrom, note, stepOf, toldEntry}
-use Rattle.stock_model.specs.Accounts.{each, labelPopped, labelPushed, pushedLabels, takenLabels}
-use Rattle.model.proofs.tests.Truth.{by-test}
-use Rattle.model.specs.Lists.{All, copies}
+use Rattle.model.specs.History.{LedgerCall, Effect, Event, Ledger, accept, attend, isEffect, isOpen, lacksSlot, note}
+use Rattle.model.{specs.History.{ledgerFrom, stepOf, toldEntry}, proofs.tests.Truth.by-test}
+use Rattle.stock_model.specs.Accounts.{each, labelPopped, labelPushed, pushedLabels, poppedLabels}
 
 -- The labels of a list, each counted as w says.
 unfoldable pub weigh : (ℕ → ℕ) → List ℕ → ℕ
@@ -82,7 +78,7 @@ module _ (w : ℕ → ℕ) where
   put cs = weigh w (pushedLabels cs)
 
   abbrev out : List LedgerCall → ℕ
-  out cs = weigh w (takenLabels cs)
+  out cs = weigh w (poppedLabels cs)
 
   abbrev Level : List LedgerCall → List Entry → Ledger → Type 0
   Level cs d l = put (l .calls) + (out cs + load d) ≡ put cs + (out (l .calls) + load (l .deque))

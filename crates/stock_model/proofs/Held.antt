@@ -1,30 +1,20 @@
 -- A call that hasn't answered yet took effect exactly where its record says so: a pop at 11 or, in a pooled queue, at 15 to 17, a push that is finishing.
-use mathlib.Core.Bool.{Bool, true, false, cond, not, _&&_, _||_}
-use mathlib.Core.List.{List, [], _∷_}
-use mathlib.Core.Logic.{_≢_, _⊎_, inl, inr}
+use mathlib.Core.{Bool.{Bool, true, false, cond, not, _&&_, _||_}, List.{List, [], _∷_}, Logic.{_≢_, _⊎_, inl, inr}}
 use mathlib.Core.Path.{_≡_, _∙_, ap, refl, sym}
 use Prim.Native.Nat.{ℕ, _≤_, _<_, suc, zero}
 use native.Mathlib.{Decide.decLt, Omega.arith}
-use lib.Dec.{eqb, ltb}
-use lib.ListN.{length, List·getD-eq-default}
+use lib.{Dec.{eqb, ltb}, ListN.{length, List·getD-eq-default}}
 use borrow.Author.Tests.{eq-eqb, eqb-false, eqb-true, ltb-true}
-use Rattle.model.specs.declared.Answer.the-variants.{Popped, Pushed}
-use Rattle.model.specs.declared.{Answer.Answer, Call.Call}
+use Rattle.model.specs.{declared.{Answer.{the-variants.{Popped, Pushed}, Answer}, Call.Call}, Lists.All}
 use Rattle.model.specs.Tables.{Queue, atPlace, isPooled, recordAt}
 use Rattle.model.specs.History.{LedgerCall, Effect, Ending, Ledger, answered, isOpen, pending}
-use Rattle.model.proofs.lists.All.{all-map}
-use Rattle.model.proofs.tests.ByPlace.{by-place}
-use Rattle.model.proofs.tests.Truth.{by-test, decide-eq, not-both, split}
+use Rattle.model.proofs.{lists.All.all-map, tests.{ByPlace.by-place, Truth.{by-test, decide-eq, not-both, split}}}
+use Rattle.model.proofs.{invariant.{Owners.Owner, Tasks.{Stage, Task}}, unsound.Safe.Safe}
+use Rattle.model.proofs.bridge.View.{placeList, placeOf, recOf, stateOf}
+use Rattle.model.proofs.ledger.{Matched.Matched, Matches.{Last, Matches, Tracked, Tracks, opens, same-answer}}
 use Rattle.model.proofs.machine.Book as B
 use Rattle.model.proofs.machine.Machine as M
-use Rattle.model.proofs.invariant.Owners.{Owner}
-use Rattle.model.proofs.invariant.Tasks.{Stage, Task}
-use Rattle.model.proofs.bridge.View.{placeList, placeOf, recOf, stateOf}
-use Rattle.model.proofs.ledger.Matched.{Matched}
-use Rattle.model.proofs.ledger.Matches.{Last, Matches, Tracked, Tracks, opens, same-answer}
-use Rattle.model.proofs.unsound.Safe.{Safe}
-use Rattle.model.specs.Lists.{All}
-use Rattle.stock_model.specs.Accounts.{Stands, hasPushed, hasTaken, labelPopped, labelPushed}
+use Rattle.stock_model.specs.Accounts.{Stands, hasPushed, hasPopped, labelPopped, labelPushed}
 use Rattle.stock_model.proofs.Balance.{AllFit, Fits}
 
 -- The places of a pop between its effect and its answer.
@@ -55,9 +45,9 @@ effects-at M.at11 s h t r c w n = w .after .once
 effects-at (M.draw p) s h t r c w n = w .1 .none
 effects-at (M.give p) s h t r c w n = w .1 .after .once
 
-early : (f : Bool) (n : ℕ) → f ≡ false → n ≡ 0 → n ≡ cond f 1 0
-early true n e z = absurd (not-both refl e)
-early false n e z = z
+unfinished : (f : Bool) (n : ℕ) → f ≡ false → n ≡ 0 → n ≡ cond f 1 0
+unfinished true n e z = absurd (not-both refl e)
+unfinished false n e z = z
 
 staged : (f : Bool) (g : ℕ → ℕ) (h : ℕ → Owner) (t : ℕ) (k : M.Kind) (d : Bool) (x l : ℕ) (c : B.BookCall)
     → Stage f g h t k d x l c → c .effects ≡ cond f 1 0
@@ -68,10 +58,10 @@ finished-at : (p : M.Place) (s : M.Shared) (h : ℕ → Owner) (t : ℕ) (r : M.
     → Task p s h t r c → ((x l : ℕ) → c .told ≡ M.popped x l → c .effects ≡ 0)
     → c .effects ≡ cond (r .finishing) 1 0
 finished-at M.idle s h t r c b w n = absurd (not-both refl b)
-finished-at M.at1 s h t r c b w n = early (r .finishing) (c .effects) (w .0) (w .1 .none)
-finished-at M.at2 s h t r c b w n = early (r .finishing) (c .effects) (w .0 .early) (w .0 .before .none)
-finished-at M.at3 s h t r c b w n = early (r .finishing) (c .effects) (w .0 .early) (w .0 .before .none)
-finished-at M.at4 s h t r c b w n = early (r .finishing) (c .effects) (w .0 .early) (w .0 .before .none)
+finished-at M.at1 s h t r c b w n = unfinished (r .finishing) (c .effects) (w .0) (w .1 .none)
+finished-at M.at2 s h t r c b w n = unfinished (r .finishing) (c .effects) (w .0 .unfinished) (w .0 .before .none)
+finished-at M.at3 s h t r c b w n = unfinished (r .finishing) (c .effects) (w .0 .unfinished) (w .0 .before .none)
+finished-at M.at4 s h t r c b w n = unfinished (r .finishing) (c .effects) (w .0 .unfinished) (w .0 .before .none)
 finished-at M.at5 s h t r c b w n = staged (r .finishing) _ _ _ _ _ _ _ c (w .stage)
 finished-at M.at6 s h t r c b w n = staged (r .finishing) _ _ _ _ _ _ _ c (w .0 .stage)
 finished-at M.at7 s h t r c b w n = staged (r .finishing) _ _ _ _ _ _ _ c (w .0 .stage)
@@ -79,7 +69,7 @@ finished-at M.at8 s h t r c b w n = staged (r .finishing) _ _ _ _ _ _ _ c (w .0 
 finished-at M.at9 s h t r c b w n = staged (r .finishing) _ _ _ _ _ _ _ c (w .0 .stage)
 finished-at M.at10 s h t r c b w n = staged (r .finishing) _ _ _ _ _ _ _ c (w .0 .stage)
 finished-at M.at11 s h t r c b w n = absurd (omega (arith, w .after .once, n _ _ (w .after .told)))
-finished-at (M.draw p) s h t r c b w n = early (r .finishing) (c .effects) (w .1 .early) (w .1 .none)
+finished-at (M.draw p) s h t r c b w n = unfinished (r .finishing) (c .effects) (w .1 .unfinished) (w .1 .none)
 finished-at (M.give p) s h t r c b w n = absurd (omega (arith, w .1 .after .once, n _ _ (w .1 .after .told)))
 
 -- A field that is 0 or 1.
@@ -88,13 +78,13 @@ flag zero h = refl
 flag (suc zero) h = refl
 flag (suc (suc n)) h = absurd (omega (arith, h))
 
-taking-is : (r : Call) → M.isIdle (placeOf (r .place)) ≡ false → taking (placeOf (r .place)) ≡ hasTaken r
+taking-is : (r : Call) → M.isIdle (placeOf (r .place)) ≡ false → taking (placeOf (r .place)) ≡ hasPopped r
 taking-is r b = go (decide-eq (r .place) 0) (decLt 17 (r .place))
   where
-    go : (r .place ≡ 0) ⊎ (r .place ≢ 0) → Dec (17 < r .place) → taking (placeOf (r .place)) ≡ hasTaken r
+    go : (r .place ≡ 0) ⊎ (r .place ≢ 0) → Dec (17 < r .place) → taking (placeOf (r .place)) ≡ hasPopped r
     go (inl z) d = absurd (not-both (ap (λ (p : ℕ). M.isIdle (placeOf p)) z) b)
     go (inr z) (yes l) = absurd (not-both (ap (λ (p : M.Place). M.isIdle p) (List·getD-eq-default placeList M.idle {n = r .place} (omega arith))) b)
-    go (inr z) (no l) = by-place (λ p. taking (placeOf p) ≡ hasTaken (atPlace r p))
+    go (inr z) (no l) = by-place (λ p. taking (placeOf p) ≡ hasPopped (atPlace r p))
         refl refl refl refl refl refl refl refl refl refl refl refl refl refl refl refl refl (r .place) z (omega arith)
 
 module _ (n : ℕ) (q : Queue) (l : Ledger) (g : Matched n q l) where
@@ -126,7 +116,7 @@ module _ (n : ℕ) (q : Queue) (l : Ledger) (g : Matched n q l) where
     abbrev known : Bool
     known = ltb t (q .tables .control .tasks)
 
-    pop-stands : c .kind ≢ 0 → length (c .effects) ≡ cond (hasTaken (recordAt q t)) 1 0
+    pop-stands : c .kind ≢ 0 → length (c .effects) ≡ cond (hasPopped (recordAt q t)) 1 0
     unfolding stateOf recOf
     pop-stands kind =
         sym (h .count)
@@ -135,7 +125,7 @@ module _ (n : ℕ) (q : Queue) (l : Ledger) (g : Matched n q l) where
         ∙ ap (λ (b : Bool). cond b 1 0) (taken known b)
       where
         taken : (known : Bool) → M.isIdle (cond known (recOf (recordAt q t)) M.blank .place) ≡ false
-            → taking (cond known (recOf (recordAt q t)) M.blank .place) ≡ hasTaken (recordAt q t)
+            → taking (cond known (recOf (recordAt q t)) M.blank .place) ≡ hasPopped (recordAt q t)
         taken true b = taking-is (recordAt q t) b
         taken false b = absurd (not-both refl b)
 

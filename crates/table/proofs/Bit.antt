@@ -1,10 +1,8 @@
 -- Or with one bit sets that bit, and and with its complement clears it.
 use mathlib.Core.Path.{_≡_, sym, ap, ap₂, _∙_}
 use Prim.Native.Nat.{ℕ, _+_, _-_, _*_, _/_, _%_, _^_, _<_}
-use native.Mathlib.Nat.{mod-lt, mod-mod, add-zero, max-eq-right, mod-eq-of-lt}
-use native.Mathlib.Omega.{arith}
-use lib.Dec.{lit<}
-use lib.Pow.{pow-pos, split, shl-exact, shr-lt, ones-split, ones-lt, high-ones}
+use native.Mathlib.{Nat.{mod-lt, mod-mod, add-zero, max-eq-right, mod-eq-of-lt}, Omega.arith}
+use lib.{Dec.lit<, Pow.{pow-pos, split, shl-exact, shr-lt, ones-split, ones-lt, high-ones}}
 use lib.Bits.{bitAnd, bitOr, or-step, or-zero-r, or-block, and-block, and-mask, and-high}
 use Rattle.model.specs.Tables.{putBit}
 

@@ -1,6 +1,5 @@
 -- A table whose first i entries are zeroed, and one entry more.
-use mathlib.Core.Path.{_≡_, ap, _∙_}
-use mathlib.Core.List.{List}
+use mathlib.Core.{Path.{_≡_, ap, _∙_}, List.List}
 use Prim.Native.Nat.{ℕ, _+_, _<_, _≤_}
 use native.Mathlib.Omega.{arith}
 use borrow.Author.Fill.{fill-more}

@@ -1,14 +1,10 @@
 -- The next table of a pooled opening, filled row by row.
-use mathlib.Core.Path.{_≡_, refl, sym, ap, subst, _∙_}
-use mathlib.Core.Bool.{Bool, true, false, _&&_}
-use mathlib.Core.List.{List, [], _∷_, _++_}
+use mathlib.Core.{Path.{_≡_, refl, sym, ap, subst, _∙_}, Bool.{Bool, true, false, _&&_}, List.{List, [], _∷_, _++_}}
 use Prim.Native.Nat.{ℕ, zero, suc, _+_, _<_, _≤_}
 use native.Mathlib.{Numerals.add-one, Omega.arith}
-use lib.{Dec.ltb, Seq.take-all}
-use lib.ListN.{length, getD, set, take, drop, length-set, List·getD-append}
+use lib.{Dec.ltb, Seq.take-all, ListN.{length, getD, set, take, drop, length-set, List·getD-append}}
 use borrow.Author.Tests.{ltb-true}
-use Rattle.model.specs.{Calls.stacked, Lists.climb}
-use Rattle.model.proofs.lists.Range.{length-climb, climb-step, climb-out}
+use Rattle.model.{specs.{Calls.stacked, Lists.climb}, proofs.lists.Range.{length-climb, climb-step, climb-out}}
 
 -- What the test of a pooled table's length tells.
 pub long : (pooled : Bool) (n m : ℕ) → pooled && ltb n m ≡ true → n < m

@@ -1,9 +1,8 @@
 -- What a start or step hands back by value, with the tables that it was lent and its task's count of failed changes, as it was.
 use mathlib.Core.List.{List}
 use Prim.Native.Nat.{ℕ}
-use Rattle.model.specs.{Tables.tablesOf, Route.counted}
+use Rattle.model.specs.{Tables.tablesOf, Route.counted, declared.Transition.Transition}
 use Rattle.model.specs.Calls as calls
-use Rattle.model.specs.declared.Transition.{Transition}
 
 abbrev pub withTables : Transition → List ℕ → List ℕ → List ℕ → List ℕ → List ℕ → ℕ → calls.Acted
 withTables m lefts rights labels marks next retries =

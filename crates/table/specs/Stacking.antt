@@ -1,6 +1,5 @@
 -- All slots stacked in the next table of a pooled queue; a shorter table, and a named queue's, keeps its contents.
-use mathlib.Core.Bool.{Bool, _&&_, cond}
-use mathlib.Core.List.{List}
+use mathlib.Core.{Bool.{Bool, _&&_, cond}, List.List}
 use Prim.Native.Nat.{ℕ}
 use lib.{Dec.ltb, ListN.length}
 use Rattle.model.specs.Calls.{stacked}

@@ -3,12 +3,8 @@
 ghost use mathlib.Core.Path.{_≡_};
 ghost use Prim.Native.Nat.{_<_, _≤_};
 ghost use lib.ListN.{length, getD, set};
-ghost use Rattle.model.specs.Tables.{marked, withMark};
-ghost use Rattle.model.specs.Calls.{stacked};
-ghost use Rattle.model.specs.Route.{counted};
-ghost use Rattle.model.specs.Lists.{zeroed};
-ghost use Rattle.table.specs.Zeroing.{zeroing};
-ghost use Rattle.table.specs.Stacking.{stacking};
+ghost use Rattle.model.specs.{Tables.{marked, withMark}, Calls.stacked, Route.counted, Lists.zeroed};
+ghost use Rattle.table.specs.{Zeroing.zeroing, Stacking.stacking};
 
 /// A task's failed changes, with one more or not; the count stays at the ceiling.
 pub fn counted(retries: u64, failed: bool) -> u64

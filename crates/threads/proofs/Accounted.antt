@@ -1,16 +1,9 @@
 -- Every label is accounted for, of threads as of lists.
-use Rattle.model.specs.History.{ledger}
-use Rattle.model.proofs.ledger.Opened.{nobody}
-use Rattle.stock_model.proofs.Accounts.{accounted, added-up}
-use Rattle.stock_model.proofs.Balance.{all-fit}
-use Rattle.stock_model.proofs.Held.{every-stands}
-use Rattle.threads_model.specs.Turns.{finalTurns}
-use Rattle.threads_model.specs.Crew.{allFree, turns}
-use Rattle.threads.specs.Promises.{seenOf}
-use Rattle.threads.specs.Consequences.{InstructionsAccounted, LabelsCounted}
-use Rattle.threads.proofs.lists.EarlyPush.{after}
-use Rattle.threads.proofs.Kept.{kept-turns, lawful, waiting}
-use Rattle.threads.proofs.Since.{after-threads}
+use Rattle.model.{specs.History.ledger, proofs.ledger.Opened.nobody}
+use Rattle.stock_model.proofs.{Accounts.{accounted, added-up}, Balance.all-fit, Held.every-stands}
+use Rattle.threads_model.specs.{Turns.finalTurns, Crew.{allFree, turns}}
+use Rattle.threads.specs.{Promises.seenOf, Consequences.{InstructionsAccounted, LabelsCounted}}
+use Rattle.threads.proofs.{lists.EarlyPush.after, Kept.{kept-turns, lawful, waiting}, Since.after-threads}
 
 pub instructions-accounted : InstructionsAccounted
 instructions-accounted = after-threads LabelsCounted (λ tasks pooled slots past q k l h.

@@ -1,22 +1,16 @@
 -- When no thread is in a call plain starts and steps go on.
 use mathlib.Core.List.{List, _++_}
 use Prim.Native.Nat.{ℕ}
-use Rattle.model.specs.Tables.{Queue}
-use Rattle.model.specs.History.{Event, final, ledger, run}
-use Rattle.model.specs.Lists.{All}
-use Rattle.model.proofs.unsound.Runs.{run-safe}
+use Rattle.model.{specs.{Tables.Queue, History.{Event, final, ledger, run}, Lists.All}, proofs.unsound.Runs.run-safe}
 use Rattle.threads_model.specs.Crew.{Act, Known}
-use Rattle.threads.specs.Promises.{Rest, leftBy, seenOf}
-use Rattle.threads.specs.Consequences.{InstructionsAtRest, RestsWell}
-use Rattle.threads.proofs.lists.EarlyPush.{after}
-use Rattle.threads.proofs.Kept.{Kept, kept-plain, lawful, waiting}
+use Rattle.threads.specs.{Promises.{Rest, memoryAfter, seenOf}, Consequences.{InstructionsAtRest, RestsWell}}
+use Rattle.threads.proofs.{lists.EarlyPush.after, Kept.{Kept, kept-plain, lawful, waiting}, Since.after-threads}
 use Rattle.threads.proofs.Resting.{kept-rest, same}
-use Rattle.threads.proofs.Since.{after-threads}
 
 rests-well : (tasks pooled slots : ℕ) (past : List Event) (q : Queue) → Kept tasks pooled slots past q → (l : List Act) → All (Known tasks) l
     → Rest pooled slots q l → RestsWell past pooled slots q l
 rests-well tasks pooled slots past q k l h idle =
-    let m = leftBy pooled slots q l in
+    let m = memoryAfter pooled slots q l in
     let es = seenOf past pooled slots q l in
     let g = kept-rest tasks pooled slots past q k l h idle in
     record {

@@ -1,23 +1,13 @@
 -- What is kept of a queue and its past, by plain starts and steps and by the turns of threads.
-use mathlib.Core.Path.{_≡_, ap, refl, subst₂, sym, _∙_}
-use mathlib.Core.List.{List, [], _∷_, _++_}
+use mathlib.Core.{Path.{_≡_, ap, refl, subst₂, sym, _∙_}, List.{List, [], _∷_, _++_}}
 use Prim.Native.Nat.{ℕ, suc}
-use Rattle.model.specs.{Tables.Queue, Calls.act}
+use Rattle.model.specs.{Tables.Queue, Calls.act, Walk.{contents, entries}, Lists.All}
 use Rattle.model.specs.History.{Event, Lawful, Ledger, LedgerCall, Request, final, ledger, ledgerFrom, note, run}
-use Rattle.model.specs.Walk.{contents, entries}
-use Rattle.model.specs.Lists.{All}
-use Rattle.model.proofs.bridge.View.{stateOf}
-use Rattle.model.proofs.ledger.EveryOperation.{act-good}
-use Rattle.model.proofs.ledger.Lawful.{all-lawful}
-use Rattle.model.proofs.ledger.Matched.{Matched}
-use Rattle.model.proofs.ledger.Opened.{nobody}
-use Rattle.model.proofs.ledger.Waiting.{waits}
-use Rattle.threads_model.specs.Turns.{runTurns, finalTurns}
-use Rattle.threads_model.specs.Crew.{Act, Known, allFree, turns}
+use Rattle.model.proofs.{bridge.View.stateOf, ledger.Waiting.waits}
+use Rattle.model.proofs.ledger.{EveryOperation.act-good, Lawful.all-lawful, Matched.Matched, Opened.nobody}
+use Rattle.threads_model.specs.{Turns.{runTurns, finalTurns}, Crew.{Act, Known, allFree, turns}}
 use Rattle.threads.specs.Promises.{seenOf}
-use Rattle.threads.proofs.lists.EarlyPush.{after, turns-good}
-use Rattle.threads.proofs.follow.Good.{Good, good-act}
-use Rattle.threads.proofs.Run.{runs-on}
+use Rattle.threads.proofs.{lists.EarlyPush.{after, turns-good}, follow.Good.{Good, good-act}, Run.runs-on}
 
 -- A ledger goes on over more events.
 after-more : (es fs : List Event) (n : ℕ) → after n (es ++ fs) ≡ after (after n es) fs

@@ -1,12 +1,9 @@
 -- After an opening no two threads ever have an instruction on one label before them.
 use mathlib.Core.Path.{subst}
 use Prim.Native.Nat.{ℕ, _<_}
-use Rattle.threads_model.specs.Turns.{finalTurns}
-use Rattle.threads_model.specs.Crew.{allFree, goOn, turns}
+use Rattle.threads_model.specs.{Turns.finalTurns, Crew.{allFree, goOn, turns}}
 use Rattle.threads.specs.Promises.{InstructionsLabelsApart, LabelsApart}
-use Rattle.threads.proofs.follow.Labels.{apart}
-use Rattle.threads.proofs.Run.{runs-on}
-use Rattle.threads.proofs.Since.{after-threads}
+use Rattle.threads.proofs.{follow.Labels.apart, Run.runs-on, Since.after-threads}
 
 pub instructions-labels-apart : InstructionsLabelsApart
 instructions-labels-apart = after-threads (λ past. LabelsApart) (λ tasks pooled slots past q k l h t u lt lu.

@@ -1,30 +1,14 @@
 -- At every moment the memory is a queue on which a call that walks may rely: nobody owes the label of a slot that waits.
-use mathlib.Core.Path.{_≡_, ap, sym, subst, _∙_}
-use mathlib.Core.List.{List, [], _∷_}
+use mathlib.Core.{Path.{_≡_, ap, sym, subst, _∙_}, List.{List, [], _∷_}}
 use Prim.Native.Nat.{ℕ}
 use lib.ListN.{getD}
-use Rattle.model.specs.declared.Entry.{Entry}
-use Rattle.model.specs.Tables.{Tables, Queue}
-use Rattle.model.specs.Sound.{controlSound}
-use Rattle.model.specs.Standing.{Standing}
-use Rattle.model.specs.Walk.{contents, entries}
-use Rattle.model.specs.Lists.{All}
-use Rattle.model.proofs.bridge.View.{stateOf, view}
-use Rattle.model.proofs.invariant.Owners.{Owner, Intact, queued}
-use Rattle.model.proofs.lists.Slots.{slots as slotsOf}
-use Rattle.model.proofs.places.Owned.{queued-held}
-use Rattle.model.proofs.ledger.Waiting.{waits}
-use Rattle.threads_model.specs.Turns.{finalTurns}
-use Rattle.threads_model.specs.Crew.{Crew, allFree, goOn, turns}
-use Rattle.threads.specs.Promises.{seenOf}
-use Rattle.threads.specs.Consequences.{InstructionsMemory, MemoryStands}
-use Rattle.threads.proofs.follow.Overlay.{overlay}
-use Rattle.threads.proofs.follow.Good.{Good}
-use Rattle.threads.proofs.follow.Relation.{Sim, owes-label}
-use Rattle.threads.proofs.Run.{runs-on}
-use Rattle.threads.proofs.Kept.{kept-turns, with-ledger}
-use Rattle.threads.proofs.Resting.{over-fine, same-fits}
-use Rattle.threads.proofs.Since.{after-threads}
+use Rattle.model.specs.{declared.Entry.Entry, Tables.{Tables, Queue}, Sound.controlSound, Standing.Standing, Lists.All}
+use Rattle.model.{specs.Walk.{contents, entries}, proofs.{lists.Slots.slots as slotsOf, places.Owned.queued-held}}
+use Rattle.model.proofs.{bridge.View.{stateOf, view}, invariant.Owners.{Owner, Intact, queued}, ledger.Waiting.waits}
+use Rattle.threads_model.specs.{Turns.finalTurns, Crew.{Crew, allFree, goOn, turns}}
+use Rattle.threads.specs.{Promises.seenOf, Consequences.{InstructionsMemory, MemoryStands}}
+use Rattle.threads.proofs.{follow.{Overlay.overlay, Good.Good, Relation.{Sim, owes-label}}, Run.runs-on}
+use Rattle.threads.proofs.{Kept.{kept-turns, with-ledger}, Resting.{over-fine, same-fits}, Since.after-threads}
 
 over-intact : (q : Tables) (l k : List ℕ) (h : ℕ → Owner) (d : List Entry) → Intact (view q) h d
     → All (λ (e : Entry). getD l (e .slot) 0 ≡ e .label) d → Intact (view (overlay q l k)) h d

@@ -1,30 +1,21 @@
 -- A thread goes on by its own instructions, whatever the others do: each leaves fewer before it, and nobody else's leaves more.
-use mathlib.Core.Path.{_≡_, refl, ap, sym, subst}
-use mathlib.Core.Bool.{Bool, true, false, cond, not}
-use mathlib.Core.List.{List, [], _∷_, _++_}
+use mathlib.Core.{Path.{_≡_, refl, ap, sym, subst}, Bool.{Bool, true, false, cond, not}, List.{List, [], _∷_, _++_}}
 use Prim.Native.Nat.{ℕ, suc, _+_, _<_, _≤_}
 use native.Mathlib.Omega.{arith}
-use lib.Dec.{eqb}
-use lib.ListN.{getD}
+use lib.{Dec.eqb, ListN.getD}
 use borrow.Author.Tests.{eqb-true, eqb-false, eq-eqb, ne-eqb}
-use Rattle.model.specs.declared.{Record.Record, Outcome.Outcome, Op.Op}
-use Rattle.model.specs.declared.Op.the-variants.{Push, Pop, PushPooled, Step}
-use Rattle.model.specs.Tables.{Tables, Queue, taskAt, marked}
-use Rattle.model.specs.{Sides.links, Refusals.late, Lists.All, History.Request}
+use Rattle.model.specs.declared.{Record.Record, Outcome.Outcome, Op.{Op, the-variants.{Push, Pop, PushPooled, Step}}}
+use Rattle.model.specs.{Tables.{Tables, Queue, taskAt, marked}, Sides.links, Refusals.late, Lists.All, History.Request}
 use Rattle.model.proofs.tests.Truth.{either, by-test, not-both, split}
-use Rattle.threads_model.specs.Split.{plan}
-use Rattle.threads_model.specs.Starts.{ownRefusal}
-use Rattle.threads_model.specs.Turns.{finalTurns}
-use Rattle.threads_model.specs.Instructions.{Hand, free, begun, loaded, knows, claims, looks, labels, marks, ends, Ticked, toldAtEnd}
-use Rattle.threads_model.specs.Instructions.{atOnce, isAsRead, isToPut, loadsOwn, oneWord, putsOwn, readsNext, replaces, stepFirst, clears, tick}
-use Rattle.threads_model.specs.Crew.{Act, Crew, Known, calls, next, allFree, takesUp, ticked, go, goOn, turns, tellsTo, told}
+use Rattle.threads_model.specs.{Split.plan, Starts.ownRefusal, Turns.finalTurns, Crew.told}
+use Rattle.threads_model.specs.Instructions.{Hand, free, begun, loaded, knows, claims, looks, labels, marks, ends, tick}
+use Rattle.threads_model.specs.Instructions.{Ticked, toldAtEnd, atOnce, isAsRead, isToPut, loadsOwn, oneWord, putsOwn}
+use Rattle.threads_model.specs.Instructions.{readsNext, replaces, stepFirst, clears}
+use Rattle.threads_model.specs.Crew.{Act, Crew, Known, calls, next, allFree, takesUp, ticked, go, goOn, turns, tellsTo}
 use Rattle.threads.specs.Consequences.{GoesAhead, InstructionsGoOn, ownIn}
-use Rattle.threads.proofs.follow.Starting.{namedOwn, first-pop, first-put, first-push, claims-is, looks-is}
-use Rattle.threads.proofs.follow.OwnLink.{AllRead, Reads, next-reads}
-use Rattle.threads.proofs.follow.Good.{Good}
-use Rattle.threads.proofs.Run.{runs-on}
-use Rattle.threads.proofs.Since.{after-threads}
-use Rattle.threads.proofs.RealTime.{first-known, go-more}
+use Rattle.threads.proofs.follow.Starting.{namedOwn, first-pop, first-push-pooled, first-push, claims-is}
+use Rattle.threads.proofs.follow.{Starting.looks-is, OwnLink.{AllRead, Reads, next-reads}, Good.Good}
+use Rattle.threads.proofs.{Run.runs-on, Since.after-threads, RealTime.{first-known, go-more}}
 
 -- How many of its own instructions a thread has before it at most.
 abbrev ahead : Hand → ℕ
@@ -112,7 +103,7 @@ module _ (pooled slots : ℕ) (q : Tables) (r : Record) where
       (record { less = omega arith; more = λ _. omega arith }))
   fewer (begun (PushPooled side label)) b z =
       let F = Fewer (begun (PushPooled side label)) in
-      subst F (sym (first-put q r pooled slots side label))
+      subst F (sym (first-push-pooled q r pooled slots side label))
       (either F (eqb (ownRefusal pooled slots (r .call) side (not (eqb pooled 1)) false) 0)
       (either F (late (q .control)) (record { less = omega arith; more = λ _. omega arith }) (record { less = omega arith; more = λ _. omega arith }))
       (record { less = omega arith; more = λ _. omega arith }))
@@ -137,16 +128,16 @@ module _ (pooled slots : ℕ) (q : Tables) (r : Record) where
       told-some o e = let w : _≡_ {A = ℕ} 0 1 = cc in omega arith
 
 -- A call taken up is no instruction, and a thread that is in a call takes up none.
-taken : (pooled slots : ℕ) (q : Tables) (r : Record) (k : Hand) (op : Op) → Reads pooled slots q r k → Reads pooled slots q r (takesUp k op)
-taken pooled slots q r free op z = tt
-taken pooled slots q r (begun o) op z = z
-taken pooled slots q r (loaded w) op z = z
-taken pooled slots q r (knows label) op z = z
-taken pooled slots q r (claims side slot label) op z = z
-taken pooled slots q r (looks side slot label) op z = z
-taken pooled slots q r (labels both slot label task o) op z = z
-taken pooled slots q r (marks slot task o) op z = z
-taken pooled slots q r (ends task o) op z = z
+up-reads : (pooled slots : ℕ) (q : Tables) (r : Record) (k : Hand) (op : Op) → Reads pooled slots q r k → Reads pooled slots q r (takesUp k op)
+up-reads pooled slots q r free op z = tt
+up-reads pooled slots q r (begun o) op z = z
+up-reads pooled slots q r (loaded w) op z = z
+up-reads pooled slots q r (knows label) op z = z
+up-reads pooled slots q r (claims side slot label) op z = z
+up-reads pooled slots q r (looks side slot label) op z = z
+up-reads pooled slots q r (labels both slot label task o) op z = z
+up-reads pooled slots q r (marks slot task o) op z = z
+up-reads pooled slots q r (ends task o) op z = z
 
 busy-stays : (k : Hand) (op : Op) → 1 ≤ ahead k → takesUp k op ≡ k
 busy-stays free op b = absurd (omega arith)
@@ -174,7 +165,7 @@ module _ (pooled slots : ℕ) where
   calls-reads tasks m o z u lu =
       let R : Hand → Type 0 = Reads pooled slots (m .queue .tables) (taskAt (m .queue) u) in
       by-test R (eqb u (o .task))
-      (λ e. taken pooled slots (m .queue .tables) (taskAt (m .queue) u) (m .hands (o .task)) (o .op)
+      (λ e. up-reads pooled slots (m .queue .tables) (taskAt (m .queue) u) (m .hands (o .task)) (o .op)
       (subst (λ (v : ℕ). R (m .hands v)) (eqb-true _ _ e) (z u lu)))
       (λ _. z u lu)
 

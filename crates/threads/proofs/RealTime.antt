@@ -1,15 +1,11 @@
 -- A run cut in two is a list cut in two.
-use mathlib.Core.Path.{_≡_, refl, ap, sym, subst, _∙_}
-use mathlib.Core.List.{List, [], _∷_, _++_}
+use mathlib.Core.{Path.{_≡_, refl, ap, sym, subst, _∙_}, List.{List, [], _∷_, _++_}}
 use Prim.Native.Nat.{ℕ}
-use Rattle.model.specs.declared.Outcome.{Outcome}
-use Rattle.model.specs.{Tables.Queue, Lists.All}
-use Rattle.threads_model.specs.Turns.{Turn, runTurns, finalTurns}
-use Rattle.threads_model.specs.Crew.{Act, Crew, Known, allFree, decides, go, goOn, turns, tellsTo, told, outcomesOf, owed}
+use Rattle.model.specs.{declared.Outcome.Outcome, Tables.Queue, Lists.All}
+use Rattle.threads_model.specs.{Turns.{Turn, runTurns, finalTurns}, Crew.owed}
+use Rattle.threads_model.specs.Crew.{Act, Crew, Known, allFree, decides, go, goOn, turns, tellsTo, told, outcomesOf}
 use Rattle.threads.specs.Consequences.{InstructionsRealTime, RealTime}
-use Rattle.threads.proofs.lists.Append.{assoc, outcomes-append}
-use Rattle.threads.proofs.follow.Good.{Good}
-use Rattle.threads.proofs.Run.{runs-on}
+use Rattle.threads.proofs.{lists.Append.{assoc, outcomes-append}, follow.Good.Good, Run.runs-on}
 use Rattle.threads.proofs.Since.{after-threads}
 
 append-same : (a b c : List Turn) → (a ++ b) ++ c ≡ a ++ (b ++ c)

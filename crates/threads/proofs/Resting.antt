@@ -1,31 +1,16 @@
 -- When no thread is in a call the memory is the list's queue, mark by mark; so what is kept of the one is kept of the other.
-use mathlib.Core.Path.{_≡_, ap, fun-ext, sym, subst, _∙_}
-use mathlib.Core.Bool.{_&&_, _||_, not}
-use mathlib.Core.List.{List, [], _∷_}
+use mathlib.Core.{Path.{_≡_, ap, fun-ext, sym, subst, _∙_}, Bool.{_&&_, _||_, not}, List.{List, [], _∷_}}
 use Prim.Native.Nat.{ℕ, _/_}
-use lib.Dec.{leb, ltb}
-use lib.ListN.{length}
-use lib.Seq.{ext-getD}
-use Rattle.model.specs.declared.Control.{Control}
-use Rattle.model.specs.Tables.{Queue, Tables, isPooled, marked, taskAt, unused, withMarks}
-use Rattle.model.specs.{Sound.rowsFit, History.Event, History.Ledger, History.ledger}
-use Rattle.model.specs.Lists.{All, every}
+use lib.{Dec.{leb, ltb}, ListN.length, Seq.ext-getD}
+use Rattle.model.specs.{declared.Control.Control, Tables.{Queue, Tables, isPooled, marked, taskAt, unused, withMarks}}
+use Rattle.model.specs.{Sound.rowsFit, History.{Event, Ledger, ledger}, Lists.{All, every}}
+use Rattle.model.proofs.{bridge.{Facts.LinksFine, View.{stateOf, view}}, machine.Machine.{Shared, State}}
+use Rattle.model.proofs.{invariant.{Invariant.Inv, Tags.Tags}, ledger.Matched.Matched, unsound.Safe.Safe}
 use Rattle.model.proofs.laws.Sizes as sizes
-use Rattle.model.proofs.bridge.Facts.{LinksFine}
-use Rattle.model.proofs.bridge.View.{stateOf, view}
-use Rattle.model.proofs.machine.Machine.{Shared, State}
-use Rattle.model.proofs.invariant.{Invariant.Inv, Tags.Tags}
-use Rattle.model.proofs.ledger.Matched.{Matched}
-use Rattle.model.proofs.unsound.Safe.{Safe}
-use Rattle.threads_model.specs.Turns.{finalTurns}
-use Rattle.threads_model.specs.Instructions.{Hand, free}
+use Rattle.threads_model.specs.{Turns.finalTurns, Instructions.{Hand, free}}
 use Rattle.threads_model.specs.Crew.{Act, Crew, Known, allFree, goOn, turns}
-use Rattle.threads.specs.Promises.{OwesLabel, OwesMark, Rest, recordOf, seenOf}
-use Rattle.threads.specs.Consequences.{SameQueue}
-use Rattle.threads.proofs.follow.Overlay.{overlay}
-use Rattle.threads.proofs.follow.Relation.{Sim}
-use Rattle.threads.proofs.lists.EarlyPush.{after}
-use Rattle.threads.proofs.Run.{runs-on}
+use Rattle.threads.specs.{Promises.{OwesLabel, OwesMark, Rest, recordOf, seenOf}, Consequences.SameQueue}
+use Rattle.threads.proofs.{follow.{Overlay.overlay, Relation.Sim}, lists.EarlyPush.after, Run.runs-on}
 use Rattle.threads.proofs.Kept.{Kept, kept-turns}
 
 -- Links and nexts are what they are, whatever the labels and marks.

@@ -1,30 +1,20 @@
 -- What is kept since an opening, by plain starts and steps and by threads that come to rest; so threads are linearizable, and nobody is told 34.
-use mathlib.Core.Path.{_≡_, refl, subst}
-use mathlib.Core.Bool.{Bool, cond}
-use mathlib.Core.List.{List, []}
+use mathlib.Core.{Path.{_≡_, refl, subst}, Bool.{Bool, cond}, List.{List, []}}
 use Prim.Native.Nat.{ℕ}
 use native.Mathlib.Omega.{arith}
 use lib.Dec.{eqb}
 use borrow.Author.Tests.{eqb-true}
-use Rattle.model.specs.declared.Opening.the-variants.{Opened}
+use Rattle.model.specs.{declared.Opening.the-variants.Opened, Tables.Queue, Refusals.openRefusal, Lists.All}
+use Rattle.model.specs.{Calls.{openAs, opened}, History.{Event, ledgerFrom}}
+use Rattle.model.proofs.{tests.Truth.split, ledger.Opened.{nobody, open-good, some-slots}, Never34.open-safe}
 use Rattle.model.specs.declared.Opening.the-variants as variants
-use Rattle.model.specs.{Tables.Queue, Refusals.openRefusal}
-use Rattle.model.specs.Calls.{openAs, opened}
-use Rattle.model.specs.History.{Event, ledgerFrom}
-use Rattle.model.specs.Lists.{All}
-use Rattle.model.proofs.tests.Truth.{split}
 use Rattle.model.proofs.laws.Sizes as sizes
-use Rattle.model.proofs.ledger.Opened.{nobody, open-good, some-slots}
-use Rattle.model.proofs.Never34.{open-safe}
-use Rattle.threads_model.specs.Turns.{runTurns, finalTurns}
-use Rattle.threads_model.specs.Crew.{Act, Known, allFree, goOn, turns, told, owed}
-use Rattle.threads.specs.Promises.{AfterThreads, AsList, Since, opening, plain, threads, ThreadsLinearized, ThreadsNeverUnsound, seenOf}
-use Rattle.threads.specs.Promises.{InstructionsStand, InstructionsLinearizable, InstructionsNever34}
-use Rattle.threads.proofs.lists.Append.{Fine, all-first, outcomes-sound}
-use Rattle.threads.proofs.lists.EarlyPush.{after}
-use Rattle.threads.proofs.follow.Relation.{agrees}
-use Rattle.threads.proofs.Run.{runs-on}
-use Rattle.threads.proofs.Kept.{Kept, kept-plain, kept-turns, lawful, waiting}
+use Rattle.threads_model.specs.{Turns.{runTurns, finalTurns}, Crew.{Act, Known, allFree, goOn, turns, told, owed}}
+use Rattle.threads.specs.Promises.{AfterThreads, AsList, Since, opening, plain, threads, ThreadsLinearized}
+use Rattle.threads.specs.Promises.{ThreadsNeverUnsound, seenOf, InstructionsStand, InstructionsLinearizable}
+use Rattle.threads.specs.Promises.{InstructionsNever34}
+use Rattle.threads.proofs.{lists.{Append.{Fine, all-first, outcomes-sound}, EarlyPush.after}, Run.runs-on}
+use Rattle.threads.proofs.{follow.Relation.agrees, Kept.{Kept, kept-plain, kept-turns, lawful, waiting}}
 use Rattle.threads.proofs.Resting.{kept-rest}
 
 module _ (pooled : Bool) (tasks slots : ℕ) where

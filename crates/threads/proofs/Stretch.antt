@@ -1,38 +1,24 @@
 -- Request #108's second bound, of threads: so many accepted steps among the turns of a stretch, and some call takes effect or answers.
-use mathlib.Core.Path.{_∙_, _≡_, ap, refl, sym, subst}
-use mathlib.Core.Bool.{Bool, cond, false, true}
-use mathlib.Core.List.{List, [], _∷_}
+use mathlib.Core.{Path.{_∙_, _≡_, ap, refl, sym, subst}, Bool.{Bool, cond, false, true}, List.{List, [], _∷_}}
 use Prim.Native.Nat.{ℕ, suc, _+_, _*_, _<_, _≤_}
 use native.Mathlib.Omega.{arith}
 use lib.Dec.{eqb}
 use borrow.Author.Tests.{eqb-true}
-use Rattle.model.specs.declared.{Control.Control, Op.Op}
-use Rattle.model.specs.declared.Op.the-variants.{Push, Pop, PushPooled, Step}
-use Rattle.model.specs.Tables.{Queue, isPooled, recordAt, started, taskAt, withCall}
-use Rattle.model.specs.Refusals.{among, pushRefusal}
-use Rattle.model.specs.Sound.{controlSound, controlTests}
-use Rattle.model.specs.Calls.{Done, back}
-use Rattle.model.specs.{History.Ledger, Lists.All}
-use Rattle.model.specs.Progress.{any, pairs, stepping, steps, stretchLimit, tookEffectOrAnswered, tookEffectOrAnsweredBy}
-use Rattle.model.proofs.tests.Truth.{by-test, either, or-false, split}
-use Rattle.model.proofs.tests.Rules.{tests}
-use Rattle.model.proofs.bridge.{Accepted.Lies, Facts.from1-true}
-use Rattle.model.proofs.bridge.Operations.{put-back, task-of}
-use Rattle.model.proofs.bridge.View.{placeOf, recOf, stateOf, view}
+use Rattle.model.specs.{declared.{Control.Control, Op.{Op, the-variants.{Push, Pop, PushPooled, Step}}}, History.Ledger}
+use Rattle.model.specs.{Tables.{Queue, isPooled, recordAt, started, taskAt, withCall}, Refusals.{among, pushRefusal}}
+use Rattle.model.specs.{Sound.{controlSound, controlTests}, Calls.{Done, back}, Lists.All}
+use Rattle.model.specs.Progress.{any, pairs, stepping, steps, stretchLimit, tookEffectOrAnswered}
+use Rattle.model.{specs.Progress.tookEffectOrAnsweredBy, proofs.bridge.View.{placeOf, recOf, stateOf, view}}
+use Rattle.model.proofs.{tests.{Truth.{by-test, either, or-false, split}, Rules.tests}, ledger.Matched.Matched}
+use Rattle.model.proofs.bridge.{Accepted.Lies, Facts.from1-true, Operations.{put-back, task-of}}
+use Rattle.model.proofs.progress.{AllOwed.{all, all-keep}, Measure.owedAt, Others.{heads, heads-most}}
+use Rattle.model.proofs.progress.{Scale.{scale, together}, TogetherSteps.{act-all, all-bound}}
 use Rattle.model.proofs.machine.Machine as M
-use Rattle.model.proofs.ledger.Matched.{Matched}
 use Rattle.model.proofs.laws.Sizes as sizes
-use Rattle.model.proofs.progress.AllOwed.{all, all-keep}
-use Rattle.model.proofs.progress.Measure.{owedAt}
-use Rattle.model.proofs.progress.Others.{heads, heads-most}
-use Rattle.model.proofs.progress.Scale.{scale, together}
-use Rattle.model.proofs.progress.TogetherSteps.{act-all, all-bound}
 use Rattle.threads_model.specs.Turns.{Turn, actEarly, takeEarly, runTurns, finalTurns}
 use Rattle.threads_model.specs.Crew.{Known, allFree, goOn, turns}
 use Rattle.threads.specs.Consequences.{InstructionsStretch, ThreadsStretch}
-use Rattle.threads.proofs.Run.{runs-on}
-use Rattle.threads.proofs.Since.{after-threads}
-use Rattle.threads.proofs.RealTime.{first-known}
+use Rattle.threads.proofs.{Run.runs-on, Since.after-threads, RealTime.first-known}
 use Rattle.threads.proofs.lists.EarlyPush.{pushed, shown, take-good, waited}
 
 module _ (n : ℕ) (q : Queue) (l : Ledger) (g : Matched n q l) (pooled : Bool) (way : isPooled (q .tables .control) ≡ pooled) (t : ℕ) where

@@ -2,14 +2,14 @@
 -- record (StaysSound), and so does a start (FirstCalls), so that the record need not be asked again (Unasked).
 pub mod Touches
 pub mod Settlement
-pub mod EarlyPlaces
+pub mod DequePlaces
 pub mod ByPlace
 pub mod Stands
 pub mod ByRecord
 pub mod Planned
 pub mod Within
 pub mod SoundFields
-pub mod SoundEarly
+pub mod DequeStaysSound
 pub mod StaysSound
 pub mod Unasked
 pub mod FirstCalls

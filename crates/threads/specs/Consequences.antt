@@ -1,26 +1,18 @@
 -- What follows for the memory that threads leave, at every moment and at rest, for real time, for the labels, and for progress.
-use mathlib.Core.Path.{_≡_}
-use mathlib.Core.Bool.{cond, true}
-use mathlib.Core.List.{List, [], _∷_, _++_}
-use mathlib.Core.Logic.{_≢_}
+use mathlib.Core.{Path._≡_, Bool.{cond, true}, List.{List, [], _∷_, _++_}, Logic._≢_}
 use Prim.Native.Nat.{ℕ, _+_, _<_, _≤_}
 use lib.Dec.{eqb}
-use Rattle.model.specs.declared.Outcome.the-variants.{Refused}
-use Rattle.model.specs.Tables.{Queue, isPooled, marked, withMarks}
-use Rattle.model.specs.History.{Event, Lawful, Ledger, LedgerCall, Request, final, ledger, run}
-use Rattle.model.specs.Walk.{contents, entries}
-use Rattle.model.specs.Standing.{Standing}
-use Rattle.model.specs.Progress.{any, steps, stretchLimit, tookEffectOrAnswered}
-use Rattle.model.specs.Lists.{All}
+use Rattle.model.specs.{declared.Outcome.the-variants.Refused, Tables.{Queue, isPooled, marked, withMarks}, Lists.All}
+use Rattle.model.specs.{History.{Event, Lawful, Ledger, LedgerCall, Request, final, ledger, run}, Standing.Standing}
+use Rattle.model.specs.{Walk.{contents, entries}, Progress.{any, steps, stretchLimit, tookEffectOrAnswered}}
 use Rattle.stock_model.specs.Accounts.{AccountedIn, AddedUp}
-use Rattle.threads_model.specs.Turns.{runTurns, finalTurns}
-use Rattle.threads_model.specs.Instructions.{free}
+use Rattle.threads_model.specs.{Turns.{runTurns, finalTurns}, Instructions.free}
 use Rattle.threads_model.specs.Crew.{Act, calls, next, allFree, goOn, turns, told, outcomesOf, owed}
-use Rattle.threads.specs.Promises.{AfterThreads, Rest, leftBy, seenOf}
+use Rattle.threads.specs.Promises.{AfterThreads, Rest, memoryAfter, seenOf}
 
 -- MEMORY. At every moment, also while calls are under way: a queue on which a call that walks may rely, whose walk meets the sequential deque's queue.
 abbrev pub MemoryStands : List Event → ℕ → ℕ → Queue → List Act → Type 0
-MemoryStands past pooled slots q l = Standing (leftBy pooled slots q l) (ledger (seenOf past pooled slots q l) .deque)
+MemoryStands past pooled slots q l = Standing (memoryAfter pooled slots q l) (ledger (seenOf past pooled slots q l) .deque)
 
 abbrev pub InstructionsMemory : Type 0
 InstructionsMemory = AfterThreads MemoryStands
@@ -40,8 +32,8 @@ pub record GoesOn (es : List Event) (q : Queue) (kept : Ledger) : Type 0 where
 
 -- At rest the memory is the list's queue, and any plain starts and steps may follow.
 pub record RestsWell (past : List Event) (pooled slots : ℕ) (q : Queue) (l : List Act) : Type 0 where
-  pub same : SameQueue (leftBy pooled slots q l) (finalTurns q (turns pooled slots (allFree q) l))
-  pub goes-on : (os : List Request) → let m = leftBy pooled slots q l in GoesOn (run m os) (final m os) (ledger (seenOf past pooled slots q l ++ run m os))
+  pub same : SameQueue (memoryAfter pooled slots q l) (finalTurns q (turns pooled slots (allFree q) l))
+  pub goes-on : (os : List Request) → let m = memoryAfter pooled slots q l in GoesOn (run m os) (final m os) (ledger (seenOf past pooled slots q l ++ run m os))
 
 abbrev pub InstructionsAtRest : Type 0
 InstructionsAtRest = AfterThreads (λ past pooled slots q l. Rest pooled slots q l → RestsWell past pooled slots q l)

@@ -1,29 +1,16 @@
 -- What is promised of split steps, and of threads that interleave at single instructions.
-use mathlib.Core.Path.{_≡_}
-use mathlib.Core.Bool.{Bool, true, false, cond}
-use mathlib.Core.List.{List, [], _++_}
-use mathlib.Core.Logic.{_≢_}
+use mathlib.Core.{Path._≡_, Bool.{Bool, true, false, cond}, List.{List, [], _++_}, Logic._≢_}
 use Prim.Native.Nat.{ℕ, _<_}
-use lib.Dec.{eqb}
-use lib.ListN.{getD, set}
-use Rattle.model.specs.declared.Call.{Call}
-use Rattle.model.specs.declared.Record.{Record}
-use Rattle.model.specs.declared.Outcome.{Outcome}
-use Rattle.model.specs.declared.Outcome.the-variants.{Refused}
-use Rattle.model.specs.declared.Opening.the-variants.{Opened}
-use Rattle.model.specs.Tables.{Tables, Queue, taskAt, marked}
-use Rattle.model.specs.Sound.{from1, recordSound}
-use Rattle.model.specs.Refusals.{admission, alone, fits, late}
-use Rattle.model.specs.Calls.{act, openAs, stepLent}
-use Rattle.model.specs.History.{Event, LedgerCall, Lawful, Request, final, ledger, run}
-use Rattle.model.specs.Walk.{contents, entries}
-use Rattle.model.specs.Lists.{All}
+use lib.{Dec.eqb, ListN.{getD, set}}
+use Rattle.model.specs.{declared.{Call.Call, Record.Record, Outcome.{Outcome, the-variants.Refused}}, Lists.All}
+use Rattle.model.specs.{declared.Opening.the-variants.Opened, Tables.{Tables, Queue, taskAt, marked}}
+use Rattle.model.specs.{Sound.{from1, recordSound}, Refusals.{admission, alone, fits, late}, Walk.{contents, entries}}
+use Rattle.model.specs.{Calls.{act, openAs, stepLent}, History.{Event, LedgerCall, Lawful, Request, final, ledger, run}}
 use Rattle.threads_model.specs.Split.{plan, onRow, planUnasked, settle, settleUnasked, splitStep}
-use Rattle.threads_model.specs.declared.Start.{Start}
-use Rattle.threads_model.specs.Starts.{isNamed, startWhy, planStart, firstCall}
+use Rattle.threads_model.specs.{declared.Start.Start, Starts.{isNamed, startWhy, planStart, firstCall}}
 use Rattle.threads_model.specs.Turns.{Turn, takeEarly, runTurns, finalTurns}
-use Rattle.threads_model.specs.Instructions.{Hand, free, begun, loaded, knows, claims, looks, labels, marks, ends}
-use Rattle.threads_model.specs.Instructions.{Ticked, tick, withLabels, labelTouched}
+use Rattle.threads_model.specs.Instructions.{Hand, free, begun, loaded, knows, claims, looks, labels, marks, ends, tick}
+use Rattle.threads_model.specs.Instructions.{Ticked, withLabels, labelTouched}
 use Rattle.threads_model.specs.Crew.{Crew, Act, allFree, Known, goOn, turns, told, outcomesOf, owed, labelNext}
 
 -- For any tables and any record: where the tables are admitted (34 for control and Anchor, 12), plan, touch and settlement are the step on the lent
@@ -113,8 +100,8 @@ pub record AsList (pooled slots : ℕ) (q : Queue) (l : List Act) : Type 0 where
       ≡ told pooled slots (allFree q) l t ++ owed (goOn pooled slots (allFree q) l .hands t)
 
 -- The memory that threads leave. No thread is in the middle of a start or step.
-abbrev pub leftBy : ℕ → ℕ → Queue → List Act → Queue
-leftBy pooled slots q l = goOn pooled slots (allFree q) l .queue
+abbrev pub memoryAfter : ℕ → ℕ → Queue → List Act → Queue
+memoryAfter pooled slots q l = goOn pooled slots (allFree q) l .queue
 
 abbrev pub Rest : ℕ → ℕ → Queue → List Act → Type 0
 Rest pooled slots q l = (t : ℕ) → goOn pooled slots (allFree q) l .hands t ≡ free
@@ -129,7 +116,7 @@ pub data Since (pooled : Bool) (tasks slots : ℕ) : List Event → Queue → Ty
   opening : (q : Queue) (tag : ℕ) → openAs pooled q tasks slots tag .outcome ≡ Opened → Since pooled tasks slots [] (openAs pooled q tasks slots tag .queue)
   plain : (past : List Event) (q : Queue) → Since pooled tasks slots past q → (os : List Request) → Since pooled tasks slots (past ++ run q os) (final q os)
   threads : (past : List Event) (q : Queue) → Since pooled tasks slots past q → (l : List Act) → All (Known tasks) l → Rest (cond pooled 1 0) slots q l
-      → Since pooled tasks slots (seenOf past (cond pooled 1 0) slots q l) (leftBy (cond pooled 1 0) slots q l)
+      → Since pooled tasks slots (seenOf past (cond pooled 1 0) slots q l) (memoryAfter (cond pooled 1 0) slots q l)
 
 -- Then any list of acts by threads of the tasks opened, so every prefix of a run too.
 abbrev pub AfterThreads : (List Event → ℕ → ℕ → Queue → List Act → Type 0) → Type 0

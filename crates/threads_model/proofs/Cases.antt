@@ -1,30 +1,22 @@
 -- Worked runs of threads at the grain of single instructions: for each rule a short run that goes wrong without it, then threads that run alone.
 -- Each line holds by computing the meanings.
-use mathlib.Core.Path.{_≡_, refl}
-use mathlib.Core.Bool.{true, false}
-use mathlib.Core.List.{List, [], _∷_, _++_, map}
+use mathlib.Core.{Path.{_≡_, refl}, Bool.{true, false}, List.{List, [], _∷_, _++_, map}}
 use Prim.Native.Nat.{ℕ}
 use lib.ListN.{getD, replicate}
-use Rattle.model.specs.declared.{Call.Call, Record.Record}
-use Rattle.model.specs.declared.Answer.the-variants.{Pushed}
-use Rattle.model.specs.declared.Outcome.{Outcome}
-use Rattle.model.specs.declared.Outcome.the-variants.{Refused, Moved}
-use Rattle.model.specs.declared.Op.{Op}
-use Rattle.model.specs.declared.Op.the-variants.{Push, Pop, PushPooled, Step}
-use Rattle.model.specs.Tables.{Tables, Queue, queueOf, unopened, unused, counting, openedControl, withWords, newCall, withSeen, withNeighbour}
-use Rattle.model.specs.Sound.{anchorSound, linkSound, recordSound, rowsFit}
-use Rattle.model.specs.Places.{sideOf, row, linkSide, reading, at1, at2, at3, new4, at4, at5, at6, at7, at9, at10, at11, at12, at13, at14}
-use Rattle.model.specs.Places.{at15, at16, at17, move}
+use Rattle.model.{specs.declared.{Call.Call, Record.Record, Answer.the-variants.Pushed}, proofs.Bench.{fresh, at, got}}
+use Rattle.model.specs.{declared.Outcome.{Outcome, the-variants.{Refused, Moved}}, Tables.{withSeen, withNeighbour}}
+use Rattle.model.specs.declared.Op.{Op, the-variants.{Push, Pop, PushPooled, Step}}
+use Rattle.model.specs.Tables.{Tables, Queue, queueOf, unopened, unused, counting, openedControl, withWords, newCall}
+use Rattle.model.specs.{Sound.{anchorSound, linkSound, recordSound, rowsFit}, Calls.{opened, openAs, openPooled}}
+use Rattle.model.specs.Places.{sideOf, row, linkSide, reading, at1, at2, at3, new4, at4, at5, at6, at7, at9, at10, at11}
+use Rattle.model.specs.Places.{at12, at13, at14, at15, at16, at17, move}
 use Rattle.model.specs.Route.{pushRoute, popRoute, route, onward, answer, goes, counted}
 use Rattle.model.specs.Refusals.{openRefusal, stepSound, recordRefusal}
-use Rattle.model.specs.Calls.{opened, openAs, openPooled}
-use Rattle.model.proofs.Bench.{fresh, at, got}
-use Rattle.threads_model.specs.Split.{loads, planned, plan, planUnasked, perform, gone, settledAt, meetsAnchor, settle, settleUnasked}
-use Rattle.threads_model.specs.Starts.{ownRefusal, planStart, settleStart}
-use Rattle.threads_model.specs.Turns.{Turn}
-use Rattle.threads_model.specs.Instructions.{isToPut, loadsOwn, isAsRead, putsOwn, readsNext, atOnce, oneWord, replaces, stepFirst, clears}
-use Rattle.threads_model.specs.Instructions.{startFirst, claimsMark, looksMark}
-use Rattle.threads_model.specs.Crew.{Act, calls, next, allFree, go, goOn, turns, told, labelNext}
+use Rattle.threads_model.specs.Split.{loads, planned, plan, planUnasked, perform, gone, settledAt, meetsAnchor}
+use Rattle.threads_model.specs.{Split.{settle, settleUnasked}, Starts.{ownRefusal, planStart, settleStart}}
+use Rattle.threads_model.specs.{Turns.Turn, Crew.{Act, calls, next, allFree, go, goOn, turns, told, labelNext}}
+use Rattle.threads_model.specs.Instructions.{isToPut, loadsOwn, isAsRead, putsOwn, readsNext, atOnce, oneWord}
+use Rattle.threads_model.specs.Instructions.{replaces, stepFirst, clears, startFirst, claimsMark, looksMark}
 
 -- A thread begins a start or a step.
 abbrev begins : ℕ → Op → Act
@@ -199,7 +191,7 @@ pub record Cases : Type 0 where
   -- 14: the label of who has drawn the slot stays
   pub label-stays : leaves pool drawnBefore .labels ≡ 0 ∷ 6 ∷ 0 ∷ []
   -- the head's tag was raised three times, so thread 0's change fails, and slot 2 is drawn once
-  pub tag-tells : hears pool givenBack 0 ≡ at 12 ∷ at 13 ∷ at 14 ∷ at 12 ∷ []
+  pub tag-shows : hears pool givenBack 0 ≡ at 12 ∷ at 13 ∷ at 14 ∷ at 12 ∷ []
   pub head-stays : leaves pool givenBack .control .head ≡ 0x0000000300000001
   -- a step is at most four instructions, the last of which tells: at 14 it is four
   pub not-in-three : hears pool (before14 0 5 ++ part 0 3) 0 ≡ at 12 ∷ at 13 ∷ at 14 ∷ []
@@ -255,7 +247,7 @@ cases = record {
   label-undrawn = refl;
   label-drawn = refl;
   label-stays = refl;
-  tag-tells = refl;
+  tag-shows = refl;
   head-stays = refl;
   not-in-three = refl;
   told-in-four = refl;

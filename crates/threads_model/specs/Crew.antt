@@ -1,16 +1,10 @@
 -- Threads over one memory, interleaved in any way: what they leave, what each is told, and the starts and steps in the order of their deciding instructions.
-use mathlib.Core.Bool.{Bool, cond}
-use mathlib.Core.List.{List, [], _∷_, _++_}
+use mathlib.Core.{Bool.{Bool, cond}, List.{List, [], _∷_, _++_}}
 use Prim.Native.Nat.{ℕ, _<_}
-use lib.Dec.{eqb}
-use lib.ListN.{set}
-use Rattle.model.specs.declared.Outcome.{Outcome}
-use Rattle.model.specs.declared.Op.{Op}
-use Rattle.model.specs.Tables.{Queue, taskAt}
-use Rattle.model.specs.History.{Event, Request}
-use Rattle.threads_model.specs.Turns.{Turn}
-use Rattle.threads_model.specs.Instructions.{Hand, free, begun, loaded, knows, claims, looks, labels, marks, ends, Ticked, tick, written, toldAtEnd}
-use Rattle.threads_model.specs.Instructions.{labelTouched}
+use lib.{Dec.eqb, ListN.set}
+use Rattle.model.specs.{declared.{Outcome.Outcome, Op.Op}, Tables.{Queue, taskAt}, History.{Event, Request}}
+use Rattle.threads_model.specs.{Turns.Turn, Instructions.{Ticked, tick, written, toldAtEnd, labelTouched}}
+use Rattle.threads_model.specs.Instructions.{Hand, free, begun, loaded, knows, claims, looks, labels, marks, ends}
 
 -- Memory, and the threads' hands; the number of slots and the kind of queue are what each thread copied at the beginning.
 pub record Crew : Type 0 where

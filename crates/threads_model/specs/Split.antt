@@ -2,17 +2,13 @@
 -- act; `settle`, what the record, with the word found, comes to. Neither plan nor settle sees a shared table. Promises are in crate `threads`.
 use mathlib.Core.Bool.{Bool, _&&_, _||_, not, cond}
 use Prim.Native.Nat.{ℕ, _%_, _^_}
-use lib.Dec.{eqb, leb}
-use lib.ListN.{getD, set}
-use Rattle.word.specs.Anchor.{anchorOf}
-use Rattle.word.specs.Link.{linkOf, packLink}
-use Rattle.model.specs.declared.{Control.Control, Call.Call, Record.Record, Entry.Entry, Outcome.Outcome}
-use Rattle.model.specs.declared.Outcome.the-variants.{Refused, Moved}
-use Rattle.model.specs.Tables.{Tables, atPlace, counting, withMark, withAnchor, withHead, linked, withMarks, withNext, withTaken}
-use Rattle.model.specs.{Sides.links, Calls.Acted}
-use Rattle.model.specs.Kinds.{drawing, giving}
-use Rattle.model.specs.Sound.{from1, anchorSound, linkSound}
-use Rattle.model.specs.Places.{endSeen, row, linkSide, Move, move, Touch, nothing, setAnchor, setLink, clearMark, takeSlot, setNext, setHead}
+use lib.{Dec.{eqb, leb}, ListN.{getD, set}}
+use Rattle.word.specs.{Anchor.anchorOf, Link.{linkOf, packLink}}
+use Rattle.model.specs.{declared.{Control.Control, Call.Call, Record.Record, Entry.Entry}, Tables.withNext, Sides.links}
+use Rattle.model.specs.{declared.Outcome.{Outcome, the-variants.{Refused, Moved}}, Calls.Acted, Kinds.{drawing, giving}}
+use Rattle.model.specs.Tables.{withTaken, Tables, atPlace, counting, withMark, withAnchor, withHead, linked, withMarks}
+use Rattle.model.specs.{Sound.{from1, anchorSound, linkSound}, Places.{takeSlot, setNext, setHead}}
+use Rattle.model.specs.Places.{endSeen, row, linkSide, Move, move, Touch, nothing, setAnchor, setLink, clearMark}
 use Rattle.model.specs.Route.{route, onward, answer, goes, counted}
 use Rattle.model.specs.Refusals.{needsRow, meetsLink, leavesSound, hasRoom, stepSound, recordRefusal}
 use Rattle.threads_model.specs.declared.PlannedTouch.{PlannedTouch}

@@ -1,16 +1,12 @@
 -- A start split at its touches of shared memory: `planStart`, what its own numbers and record say that it does first; `settleStart`, what it comes to
 -- once a touch has found a word: one more touch, or an outcome. Neither sees a shared table.
-use mathlib.Core.Bool.{Bool, false, not, cond}
-use mathlib.Core.List.{List, [], _∷_}
+use mathlib.Core.{Bool.{Bool, false, not, cond}, List.{List, [], _∷_}}
 use Prim.Native.Nat.{ℕ}
 use lib.Dec.{eqb, leb, ltb}
 use Rattle.word.specs.Anchor.{anchorOf}
-use Rattle.model.specs.declared.{Call.Call, Record.Record, Outcome.Outcome}
-use Rattle.model.specs.declared.Outcome.the-variants.{Refused, Moved}
-use Rattle.model.specs.declared.Answer.the-variants.{Running}
-use Rattle.model.specs.Tables.{withCall, started, asking}
-use Rattle.model.specs.Sound.{from1, recordSound}
-use Rattle.model.specs.Refusals.{Rule, rule, first, isBusy}
+use Rattle.model.specs.declared.{Call.Call, Record.Record, Outcome.{Outcome, the-variants.{Refused, Moved}}}
+use Rattle.model.specs.{declared.Answer.the-variants.Running, Tables.{withCall, started, asking}}
+use Rattle.model.specs.{Sound.{from1, recordSound}, Refusals.{Rule, rule, first, isBusy}}
 use Rattle.threads_model.specs.declared.{PlannedTouch.PlannedTouch, Start.Start}
 use Rattle.threads_model.specs.Split.{planOf, refuses, loadsAnchor}
 

@@ -1,16 +1,10 @@
 -- Lists of starts and steps in which a push that names a slot may have been asked 33 before its turn.
-use mathlib.Core.Bool.{Bool, cond}
-use mathlib.Core.List.{List, [], _∷_}
+use mathlib.Core.{Bool.{Bool, cond}, List.{List, [], _∷_}}
 use Prim.Native.Nat.{ℕ}
 use lib.Dec.{eqb}
-use Rattle.model.specs.declared.Answer.the-variants.{Running}
-use Rattle.model.specs.declared.Outcome.the-variants.{Moved}
-use Rattle.model.specs.declared.Op.{Op}
-use Rattle.model.specs.declared.Op.the-variants.{Push, Pop, PushPooled, Step}
-use Rattle.model.specs.Tables.{Queue, taskAt, recordAt, withTaken, withCall, started}
-use Rattle.model.specs.Refusals.{among, pushRefusal}
-use Rattle.model.specs.Calls.{Done, act, back}
-use Rattle.model.specs.History.{Event}
+use Rattle.model.specs.{declared.{Answer.the-variants.Running, Outcome.the-variants.Moved}, Calls.{Done, act, back}}
+use Rattle.model.specs.{declared.Op.{Op, the-variants.{Push, Pop, PushPooled, Step}}, Refusals.{among, pushRefusal}}
+use Rattle.model.specs.{Tables.{Queue, taskAt, recordAt, withTaken, withCall, started}, History.Event}
 
 -- A start or step of a task. `early`: it is a push that names a slot, and the Anchor that it loaded before its turn was not late.
 pub record Turn : Type 0 where

@@ -1,24 +1,18 @@
 -- A start by its tests, and in its row.
-use mathlib.Core.Path.{_≡_, refl, ap, sym, _∙_}
-use mathlib.Core.Bool.{Bool, true, false, _&&_, cond}
-use mathlib.Core.List.{List}
+use mathlib.Core.{Path.{_≡_, refl, ap, sym, _∙_}, Bool.{Bool, true, false, _&&_, cond}, List.List}
 use Prim.Native.Nat.{ℕ}
 use native.Mathlib.Omega.{arith}
 use lib.Dec.{eqb, leb}
 use borrow.Author.Tests.{eq-eqb, ne-eqb}
-use Rattle.model.specs.declared.{Call.Call, Reply.Reply}
-use Rattle.model.specs.Tables.{started, asking}
-use Rattle.model.specs.Sound.{from1, recordSound}
+use Rattle.model.specs.{declared.{Call.Call, Reply.Reply}, Tables.{started, asking}, Sound.{from1, recordSound}}
 use Rattle.model.proofs.tests.Truth.{split, and-true, not-both}
-use Rattle.sound.proofs.Parts.{idle-sound}
+use Rattle.sound.proofs.{Parts.idle-sound, Refused.unsound}
 use Rattle.rows.specs.Rows.{callOf, recordOf, upperOf}
-use Rattle.rows.proofs.InItsRow.{unsound}
 use Rattle.threads_model.specs.declared.{PlannedTouch.PlannedTouch, Start.Start}
 use Rattle.threads_model.specs.Split.{refuses, loadsAnchor, loadsHead, plan}
 use Rattle.threads_model.specs.Starts.{Begins, ownRefusal, startWhy, wrongPush, outside, planStart, firstCall, judged}
 use Rattle.threads_model.specs.Starts.{lateWord, loadsMark, takesSlot, settleStart}
-use Rattle.threads.proofs.split.ByRecord.{refuses-plan}
-use Rattle.threads.proofs.split.Planned.{plan1, plan12}
+use Rattle.threads.proofs.split.{ByRecord.refuses-plan, Planned.{plan1, plan12}}
 use Rattle.threads.proofs.split.FirstCalls as first
 use Rattle.threads.proofs.split.SoundFields as F
 use Rattle.touch.specs.Started.{Started, startedBy, loadedBy}
@@ -39,18 +33,18 @@ module _ (pooled slots : ℕ) (r : Call) (s : Start) where
     wrong-kind b = rw (a, b)
 
     module _ (b : wrongPush pooled s ≡ false) where
-      pub no-slot : outside slots s ≡ true → Why 15
+      pub slot-outside : outside slots s ≡ true → Why 15
       unfolding ownRefusal
-      no-slot d = rw (a, b, d)
+      slot-outside d = rw (a, b, d)
 
       module _ (d : outside slots s ≡ false) where
         pub free : r .place ≡ 0 → Why 0
         unfolding ownRefusal
         free e = let idle = eq-eqb (r .place) 0 e in rw (a, b, d, idle-sound (eqb pooled 1) slots r idle, idle)
 
-        pub taken-up : (r .place ≡ 0 → ⊥) → recordSound (eqb pooled 1) slots r ≡ true → Why 30
+        pub busy-call : (r .place ≡ 0 → ⊥) → recordSound (eqb pooled 1) slots r ≡ true → Why 30
         unfolding ownRefusal
-        taken-up h f = rw (a, b, d, f, ne-eqb (r .place) 0 h)
+        busy-call h f = rw (a, b, d, f, ne-eqb (r .place) 0 h)
 
         pub damaged : recordSound (eqb pooled 1) slots r ≡ false → Why 34
         unfolding ownRefusal
@@ -79,8 +73,8 @@ module _ (pooled slots : ℕ) where
       let r = started 1 side 0 0 in
       plans pooled slots r (first.pop-sound pooled slots side a) 1 refl refl _ (plan1 pooled slots r)
 
-  pub put-plan : (side label : ℕ) → leb side 1 ≡ true → eqb pooled 1 ≡ true → loadsHead ≡ plan pooled slots (asking side label)
-  put-plan side label a p =
+  pub push-pooled-plan : (side label : ℕ) → leb side 1 ≡ true → eqb pooled 1 ≡ true → loadsHead ≡ plan pooled slots (asking side label)
+  push-pooled-plan side label a p =
       let r = asking side label in
       plans pooled slots r (first.draw-sound pooled slots side label a p) 12 refl refl _ (plan12 pooled slots r)
 

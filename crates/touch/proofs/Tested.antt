@@ -1,21 +1,16 @@
 -- What a record that is not refused shows, and its plan.
-use mathlib.Core.Path.{_≡_, refl, ap, sym, _∙_}
-use mathlib.Core.Bool.{Bool, true, false, not, cond}
+use mathlib.Core.{Path.{_≡_, refl, ap, sym, _∙_}, Bool.{Bool, true, false, not, cond}}
 use Prim.Native.Nat.{ℕ, _≤_}
 use native.Mathlib.Omega.{arith}
 use lib.Dec.{eqb, leb}
 use borrow.Author.Tests.{eqb-false, ne-eqb, leb-true, lt-leb}
 use Rattle.engine.proofs.InParts.{above}
-use Rattle.model.specs.declared.Call.{Call}
-use Rattle.model.specs.{Tables.atPlace, Refusals.recordRefusal}
-use Rattle.model.specs.Sound.{recordSound}
+use Rattle.model.specs.{declared.Call.Call, Tables.atPlace, Refusals.recordRefusal, Sound.recordSound}
 use Rattle.model.proofs.tests.Truth.{split}
-use Rattle.rows.proofs.InItsRow.{unsound}
+use Rattle.sound.proofs.Refused.{unsound}
 use Rattle.threads_model.specs.declared.PlannedTouch.{PlannedTouch}
 use Rattle.threads_model.specs.Split.{refuses, planned, plan, placeRefusal, within, planUnasked}
-use Rattle.threads.proofs.split.ByRecord.{plans-at, sound-none}
-use Rattle.threads.proofs.split.Within.{Within}
-use Rattle.threads.proofs.split.Unasked.{within-same}
+use Rattle.threads.proofs.split.{ByRecord.{plans-at, sound-none}, Within.Within, Unasked.within-same}
 
 -- The side of a link word that leads away from the right one.
 pub inward : (right : Bool) → _≡_ {A = ℕ} (cond (not right) 1 0) (cond right 0 1)

@@ -1,13 +1,10 @@
 -- A start in words, and what its settlement leaves and answers.
 use mathlib.Core.{Bool.cond, List.List}
 use Prim.Native.Nat.{ℕ, _%_, _^_}
-use lib.Dec.{eqb}
-use lib.ListN.{getD}
-use Rattle.model.specs.declared.{Record.Record, Reply.Reply}
-use Rattle.model.specs.declared.Outcome.the-variants.{Refused}
-use Rattle.model.specs.{Calls.replyOf, Ends.isMoved}
-use Rattle.threads_model.specs.declared.{PlannedTouch.PlannedTouch, Start.Start}
-use Rattle.threads_model.specs.Split.{refuses, plan}
+use lib.{Dec.eqb, ListN.getD}
+use Rattle.model.specs.{declared.{Record.Record, Reply.Reply, Outcome.the-variants.Refused}, Calls.replyOf}
+use Rattle.model.specs.Ends.{isMoved}
+use Rattle.threads_model.specs.{declared.{PlannedTouch.PlannedTouch, Start.Start}, Split.{refuses, plan}}
 use Rattle.threads_model.specs.Starts.{startWhy, Begins, touches, answers, settleStart}
 
 -- Four words: operation, side, slot, label; a label has 32 bits.

@@ -7,12 +7,11 @@ use model::Call;
 use model::Reply;
 use threads_model::PlannedTouch;
 use threads_model::Start;
-ghost use mathlib.Core.Path.{_≡_};
-ghost use mathlib.Core.Bool.{cond};
+ghost use mathlib.Core.{Path._≡_, Bool.cond};
 ghost use lib.Dec.{eqb};
 ghost use Rattle.rows.specs.Rows.{callOf, recordOf, upperOf};
-ghost use Rattle.threads_model.specs.Split.{plan};
-ghost use Rattle.threads_model.specs.Starts.{wrongPush, outside, startWhy, planStart, firstCall, judged, settleStart, takesSlot, loadsMark};
+ghost use Rattle.threads_model.specs.{Split.plan, Starts.{takesSlot, loadsMark}};
+ghost use Rattle.threads_model.specs.Starts.{wrongPush, outside, startWhy, planStart, firstCall, judged, settleStart};
 ghost use Rattle.touch.specs.Started.{startOf, Started, startedBy, loadedBy};
 
 /// The words of a start.

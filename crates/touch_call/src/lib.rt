@@ -6,8 +6,7 @@ use touch::start;
 ghost use mathlib.Core.Path.{_≡_};
 ghost use Rattle.rows.specs.Rows.{callOf, recordOf, upperOf};
 ghost use Rattle.threads_model.specs.Split.{planUnasked, settleUnasked, heardAs};
-ghost use Rattle.touch.specs.Heard.{Replied, replied};
-ghost use Rattle.touch.specs.Started.{startOf, Started, loadedBy};
+ghost use Rattle.touch.specs.{Heard.{Replied, replied}, Started.{startOf, Started, loadedBy}};
 
 /// A start whose Anchor is loaded: refused by its own numbers and record, or what it comes to.
 #[no_mangle]

@@ -1,23 +1,16 @@
 -- The page after an operation, a malformed place and an opening: what their code leaves, as the definitions have it.
 use Prim.Native.Nat.{ℕ, _+_}
-use mathlib.Core.Path.{_≡_, refl, sym, ap, _∙_}
-use mathlib.Core.Bool.{Bool, true, false, not, cond}
-use mathlib.Core.List.{List, [], _∷_, append-nil}
-use lib.Dec.{leb, eqb}
-use lib.ListN.{length}
+use mathlib.Core.{Path.{_≡_, refl, sym, ap, _∙_}, Bool.{Bool, true, false, not, cond}, List.{List, [], _∷_, append-nil}}
+use lib.{Dec.{leb, eqb}, ListN.length}
 use borrow.Author.Tests.{leb-true}
-use Rattle.model.specs.declared.{Control.Control, Outcome.Outcome, Record.Record, Op.Op}
-use Rattle.model.specs.declared.Opening.the-variants as opening
-use Rattle.model.specs.Tables.{Tables, Queue, queueOf, unused}
-use Rattle.model.specs.{Refusals.openRefusal, Lists.zeroed}
-use Rattle.model.specs.Calls.{Done, OpenDone, act, openAs}
-use Rattle.model.specs.Calls as calls
+use Rattle.model.specs.{declared.{Control.Control, Outcome.Outcome, Record.Record, Op.Op}, Refusals.openRefusal}
+use Rattle.model.specs.{Tables.{Tables, Queue, queueOf, unused}, Lists.zeroed, Calls.{Done, OpenDone, act, openAs}}
 use Rattle.model.specs.History.{run, final}
+use Rattle.model.specs.declared.Opening.the-variants as opening
+use Rattle.model.specs.Calls as calls
 use Rattle.rows.specs.Rows.{controlOf, recordsOf, queueIn}
-use Rattle.calls.specs.Opening.{OpenedParts, manyRecords, openTables}
-use Rattle.calls.proofs.Openings.{open-parts, whole}
-use Rattle.lines.specs.Line.{Put, givenRoom, room, lineOf}
-use Rattle.lines.specs.declared.Line.the-variants.{Open, File}
+use Rattle.calls.{specs.Opening.{OpenedParts, manyRecords, openTables}, proofs.Openings.{open-parts, whole}}
+use Rattle.lines.specs.{Line.{Put, givenRoom, room, lineOf}, declared.Line.the-variants.{Open, File}}
 use Rattle.lines.proofs.Puts.{put-fits}
 use Rattle.trace_field.specs.Run.{next, anchorIn, linesOf, numberOf, operated, isOpened, openingTold, malformed}
 use Rattle.trace_field.specs.Page.{Page, pageOf, written, answered, emptied, cleared, operates, opens, breaks}
@@ -61,10 +54,10 @@ break-page p event out to h e put =
     rw (w .stop, w .stored, e) (sym (breaks-fits p h))
 
 -- As many records are cleared as an accepted opening asks for.
-clear-asked : (pooled : Bool) (q : Tables) (n tasks slots tag : ℕ)
+clear-opened : (pooled : Bool) (q : Tables) (n tasks slots tag : ℕ)
     → openTables pooled q n tasks slots tag .clear ≡ cond (isOpened (openTables pooled q n tasks slots tag .outcome)) tasks 0
 unfolding openTables openAs
-clear-asked pooled q n tasks slots tag = go (eqb why 0)
+clear-opened pooled q n tasks slots tag = go (eqb why 0)
   where
     why : ℕ
     why = openRefusal pooled (manyRecords q n) tasks slots
@@ -104,6 +97,6 @@ module _ (pooled : Bool) (p : Page) (n tasks slots tag : ℕ) (o : OpenedParts) 
       ∙ ap (λ (k : ℕ). whole (p .run .queue .records) (openTables pooled (p .run .queue .tables) k tasks slots tag)) (sym en)
       ∙ ap (whole (p .run .queue .records)) (sym e) in
       let few : o .clear ≡ cond (isOpened (o .outcome)) tasks 0 =
-      ap (λ (x : OpenedParts). x .clear) e ∙ clear-asked pooled (p .run .queue .tables) n tasks slots tag
+      ap (λ (x : OpenedParts). x .clear) e ∙ clear-opened pooled (p .run .queue .tables) n tasks slots tag
       ∙ ap (λ (x : OpenedParts). cond (isOpened (x .outcome)) tasks 0) (sym e) in
       rw (d, w .stop, w .stored, er, eu, eg, ev, few)

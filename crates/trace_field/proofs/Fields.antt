@@ -1,18 +1,14 @@
 -- A field at a position: its bytes are there.
 use Prim.Native.Nat.{ℕ, suc, _+_, _-_, _<_, _≤_}
-use mathlib.Core.Path.{_≡_, refl, sym, ap, _∙_, subst}
-use mathlib.Core.Bool.{Bool, true, false, _||_}
-use mathlib.Core.List.{List}
+use mathlib.Core.{Path.{_≡_, refl, sym, ap, _∙_, subst}, Bool.{Bool, true, false, _||_}, List.List}
 use native.Mathlib.Omega.{arith}
-use lib.Dec.{leb, eqb}
-use lib.ListN.{length, take, drop, getD, length-drop}
+use lib.{Dec.{leb, eqb}, ListN.{length, take, drop, getD, length-drop}}
 use lib.Seq.{slice, take-add, drop-at, drop-drop, length-take-le}
 use borrow.Author.Tests.{eqb-true}
-use Rattle.runfile.specs.Field.{twoAt, formed, contentOf, fieldOf}
-use Rattle.runfile.specs.declared.{Field.Field, Found.Found}
-use Rattle.runfile.specs.declared.Field.the-variants.{Each}
+use Rattle.runfile.{specs.Field.{twoAt, formed, contentOf, fieldOf}, proofs.Prefix.formed-put}
+use Rattle.runfile.specs.declared.{Field.{Field, the-variants.Each}, Found.Found}
+use Rattle.runfile.proofs.Prefix.{Seen, seen, ended, cut, wrong, whole, formed-most, formed-push, formed-pop}
 use Rattle.model.specs.declared.Op.{Op}
-use Rattle.runfile.proofs.Prefix.{Seen, seen, ended, cut, wrong, whole, formed-most, formed-push, formed-pop, formed-put}
 use Rattle.trace_field.specs.Page.{Page, written, carries, moved, fieldRoom, takes, BytesThere}
 use Rattle.trace_field.proofs.Pages.{cond-true, cond-false}
 

@@ -1,17 +1,12 @@
 -- Pages: lines written one after the other, a list of operations one by one, and a malformed place.
 use Prim.Native.Nat.{ℕ, _+_, _≤_, _<_}
-use mathlib.Core.Path.{_≡_, refl, sym, ap, _∙_}
-use mathlib.Core.Bool.{Bool, true, false, cond}
+use mathlib.Core.{Path.{_≡_, refl, sym, ap, _∙_}, Bool.{Bool, true, false, cond}}
 use mathlib.Core.List.{List, [], _∷_, _++_, append-nil}
 use native.Mathlib.{Nat.add-zero, Numerals.add-one, Omega.arith}
-use lib.Dec.{leb}
-use lib.ListN.{length, getD, length-append}
-use lib.Seq.{slice, slice-cons, slice-empty}
+use lib.{Dec.leb, ListN.{length, getD, length-append}, Seq.{slice, slice-cons, slice-empty}}
 use borrow.Author.Tests.{le-leb}
-use Rattle.model.specs.declared.Op.{Op}
-use Rattle.model.specs.History.{Request, run, final}
-use Rattle.lines.specs.Line.{room}
-use Rattle.lines.proofs.Puts.{sets-append}
+use Rattle.model.specs.{declared.Op.Op, History.{Request, run, final}}
+use Rattle.lines.{specs.Line.room, proofs.Puts.sets-append}
 use Rattle.trace_field.specs.Run.{Run, Told, linesOf, numberOf, operated, eachOf, malformed}
 use Rattle.trace_field.specs.Page.{Page, written, emptied, operates, breaks}
 

@@ -1,25 +1,16 @@
 -- The lines of one field fit into the room for a field, so a page never holds more than its buffer.
 use Prim.Native.Nat.{ℕ, suc, _+_, _*_, _≤_}
-use mathlib.Core.Path.{_≡_, refl, sym, ap, _∙_, subst}
-use mathlib.Core.Bool.{Bool, true, false}
-use mathlib.Core.List.{List, [], _∷_}
+use mathlib.Core.{Path.{_≡_, refl, sym, ap, _∙_, subst}, Bool.{Bool, true, false}, List.{List, [], _∷_}}
 use native.Mathlib.Omega.{arith}
-use lib.{Dec.leb, Seq.length-sets}
-use lib.ListN.{length, take, drop, length-append, length-take, length-map}
+use lib.{Dec.leb, Seq.length-sets, ListN.{length, take, drop, length-append, length-take, length-map}}
 use borrow.Author.Tests.{leb-true}
-use Rattle.model.specs.declared.Op.{Op}
-use Rattle.model.specs.{Tables.Queue, Calls.act}
-use Rattle.model.specs.History.{Request, Event, run}
-use Rattle.runfile.specs.Field.{fieldOf}
-use Rattle.runfile.specs.declared.Field.{Field}
-use Rattle.runfile.specs.declared.Field.the-variants.{Open, Each, Malformed, Cut, End}
-use Rattle.lines.specs.Line.{lineOf, room}
+use Rattle.model.specs.{declared.Op.Op, Tables.Queue, Calls.act, History.{Request, Event, run}}
+use Rattle.runfile.specs.{Field.fieldOf, declared.Field.{Field, the-variants.{Open, Each, Malformed, Cut, End}}}
+use Rattle.lines.{specs.Line.{lineOf, room}, proofs.Lengths.line-short}
 use Rattle.lines.specs.declared.Line.the-variants as line
-use Rattle.lines.proofs.Lengths.{line-short}
 use Rattle.trace_field.specs.Run.{Run, linesOf, next, operated, openingTold, malformed, eachOf, carried}
 use Rattle.trace_field.specs.Page.{Page, written, fieldRoom, takes, BytesThere}
-use Rattle.trace_field.proofs.Pages.{cond-true}
-use Rattle.trace_field.proofs.Fields.{field-there, takes-none}
+use Rattle.trace_field.proofs.{Pages.cond-true, Fields.{field-there, takes-none}}
 
 -- One line an event, one event an operation.
 lines-most : (n : ℕ) (es : List Event) → length (linesOf n es) ≤ length es * room

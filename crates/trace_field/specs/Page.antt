@@ -1,18 +1,11 @@
 -- A run over lent tables, and its lines in a lent buffer.
-use mathlib.Core.Bool.{Bool, cond}
-use mathlib.Core.List.{List, [], _∷_}
+use mathlib.Core.{Bool.{Bool, cond}, List.{List, [], _∷_}}
 use Prim.Native.Nat.{ℕ, _+_, _*_, _≤_}
-use lib.{Dec.leb, Seq.sets}
-use lib.ListN.{length, take, drop, set}
-use Rattle.model.specs.declared.Op.{Op}
-use Rattle.model.specs.{Tables.queueOf, History.Request, Lists.zeroed}
-use Rattle.model.specs.Calls.{Done, openAs}
+use lib.{Dec.leb, Seq.sets, ListN.{length, take, drop, set}}
+use Rattle.model.specs.{declared.Op.Op, Tables.queueOf, History.Request, Lists.zeroed, Calls.{Done, openAs}}
 use Rattle.rows.specs.Rows.{recordsOf, uppersOf}
-use Rattle.runfile.specs.Field.{fieldOf}
-use Rattle.runfile.specs.declared.Field.{Field}
-use Rattle.runfile.specs.declared.Field.the-variants.{Open, Each, Malformed, Cut, End}
-use Rattle.lines.specs.Line.{lineOf, room}
-use Rattle.lines.specs.declared.Line.the-variants.{Act}
+use Rattle.runfile.specs.{Field.fieldOf, declared.Field.{Field, the-variants.{Open, Each, Malformed, Cut, End}}}
+use Rattle.lines.specs.{Line.{lineOf, room}, declared.Line.the-variants.Act}
 use Rattle.trace_field.specs.Run.{Run, Told, next, isOpened, operated, openingTold, malformed, eachOf, carried}
 use Rattle.trace_field.specs.declared.RunState.{RunState}
 

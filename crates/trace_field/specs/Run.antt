@@ -1,16 +1,12 @@
 -- A run of the queue, and the lines that it prints. (Document 01: The run file and its trace.)
-use mathlib.Core.Bool.{Bool, true, false, not}
-use mathlib.Core.List.{List, [], _∷_, _++_, map}
+use mathlib.Core.{Bool.{Bool, true, false, not}, List.{List, [], _∷_, _++_, map}}
 use Prim.Native.Nat.{ℕ, _+_, _%_, _^_}
 use lib.ListN.{take, drop}
-use Rattle.model.specs.declared.{Opening.Opening, Op.Op}
-use Rattle.model.specs.declared.Opening.the-variants.{Refused, Opened}
-use Rattle.model.specs.{Tables.Queue, Calls.openAs}
+use Rattle.model.specs.{declared.{Opening.{Opening, the-variants.{Refused, Opened}}, Op.Op}, Tables.Queue, Calls.openAs}
 use Rattle.model.specs.History.{Request, Event, run, final}
 use Rattle.lines.specs.Line.{lineOf}
 use Rattle.lines.specs.declared.Line.the-variants as line
-use Rattle.runfile.specs.declared.Field.{Field}
-use Rattle.runfile.specs.declared.Field.the-variants.{Open, Each, Malformed, Cut, End}
+use Rattle.runfile.specs.declared.Field.{Field, the-variants.{Open, Each, Malformed, Cut, End}}
 
 -- Between two fields: the queue, whether it was opened, whether the run has ended, and the number of the last event.
 pub record Run : Type 0 where

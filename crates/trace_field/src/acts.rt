@@ -6,15 +6,12 @@ use model::Control;
 use model::Op;
 use model::Opening;
 use model::Outcome;
-ghost use mathlib.Core.Path.{_≡_};
-ghost use mathlib.Core.List.{List, [], _∷_};
+ghost use mathlib.Core.{Path._≡_, List.{List, [], _∷_}};
 ghost use Prim.Native.Nat.{ℕ, _+_, _*_, _-_, _≤_};
-ghost use lib.ListN.{length, set};
-ghost use lib.Seq.{slice};
+ghost use lib.{ListN.{length, set}, Seq.slice};
 ghost use Rattle.model.specs.Tables.{queueOf};
 ghost use Rattle.rows.specs.Rows.{recordsOf, uppersOf};
-ghost use Rattle.trace_field.specs.Run.{isOpened, eachOf};
-ghost use Rattle.trace_field.specs.Page.{pageOf, answered, operates, opens};
+ghost use Rattle.trace_field.specs.{Run.{isOpened, eachOf}, Page.{pageOf, answered, operates, opens}};
 
 // An operation that was done: its line written.
 fn answer(

@@ -6,11 +6,9 @@ mod acts;
 use lines::Line;
 use model::Control;
 use runfile::Field;
-ghost use mathlib.Core.Path.{_≡_};
-ghost use mathlib.Core.List.{List};
+ghost use mathlib.Core.{Path._≡_, List.List};
 ghost use Prim.Native.Nat.{ℕ, _+_, _≤_};
-ghost use lib.Dec.{leb};
-ghost use lib.ListN.{length, drop};
+ghost use lib.{Dec.leb, ListN.{length, drop}};
 ghost use Rattle.trace_field.specs.Page.{pageOf, fieldRoom, breaks, carries, takes, BytesThere};
 
 // Room in the buffer for the lines of any one field.

@@ -1,14 +1,11 @@
 -- What the test says that ends a piece: a page that was not written, or one that took no bytes. A page that took some went on.
 use Prim.Native.Nat.{ℕ, _<_, _≤_}
-use mathlib.Core.Path.{_≡_, ap, _∙_}
-use mathlib.Core.List.{List}
-use mathlib.Core.Bool.{Bool, true, false, not, _||_}
+use mathlib.Core.{Path.{_≡_, ap, _∙_}, List.List, Bool.{Bool, true, false, not, _||_}}
 use native.Mathlib.Omega.{arith}
 use lib.{Dec.eqb, ListN.length}
 use borrow.Author.Tests.{eqb-true, eqb-false}
 use Rattle.trace_field.specs.Page.{Page}
-use Rattle.trace_replay.specs.Pieces.{nextPage}
-use Rattle.trace_replay.proofs.PageEnds.{next-onward}
+use Rattle.trace_replay.{specs.Pieces.nextPage, proofs.PageEnds.next-onward}
 
 pub still-when : (w : Bool) (a b : ℕ) → (not w || eqb a b) ≡ true → w ≡ true → a ≡ b
 still-when true a b h e = eqb-true a b h

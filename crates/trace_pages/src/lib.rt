@@ -3,13 +3,10 @@
 //! No contract says that the system writes what it is lent.
 use trace_field::RunState;
 ghost use Prim.Native.Nat.{ℕ, _≤_};
-ghost use mathlib.Core.Path.{_≡_};
-ghost use mathlib.Core.Bool.{true};
-ghost use mathlib.Core.List.{List};
+ghost use mathlib.Core.{Path._≡_, Bool.true, List.List};
 ghost use lib.ListN.{length};
 ghost use Rattle.trace_field.specs.Page.{pageOf};
-ghost use Rattle.trace_replay.specs.Feed.{Begins};
-ghost use Rattle.trace_replay.specs.Pieces.{fromStart, nextPage, pagesOf, lastPage};
+ghost use Rattle.trace_replay.specs.{Feed.Begins, Pieces.{fromStart, nextPage, pagesOf, lastPage}};
 ghost use Rattle.trace_pages.specs.Some.{Some};
 
 // Writes out the lines, or tells that it cannot.
@@ -24,19 +21,19 @@ fn flush(out: &[u8], to: usize) -> bool
 }
 
 /// A run after some pages, and whether they were written out.
-pub struct Taken {
+pub struct AfterPages {
     pub state: RunState,
     pub written: bool,
 }
 
 /// The trace's first line.
-pub fn begin(out: &mut [u8]) -> Taken
+pub fn begin(out: &mut [u8]) -> AfterPages
     ensures { λ r. ⌜ Begins (now (out .entry)) (now (out .exit)) (r .state) ⌝ }
 {
     let state = trace_replay::begin(out);
     let to = state.to;
     let written = flush(out, to);
-    Taken { state, written }
+    AfterPages { state, written }
 }
 
 // One call of `feed`, and what its page holds written out.
@@ -50,7 +47,7 @@ fn take_page(
     labels: &mut [u32],
     marks: &mut [u64],
     next: &mut [u64],
-) -> Taken
+) -> AfterPages
     ensures { λ r.
         ⌜ pageOf (r .state) (now (out .exit)) (now (rows .exit))
         (now (lefts .exit)) (now (rights .exit)) (now (labels .exit)) (now (marks .exit)) (now (next .exit))
@@ -63,7 +60,7 @@ fn take_page(
     let q = trace_replay::feed(p, bytes, out, rows, lefts, rights, labels, marks, next);
     let to = q.to;
     let written = flush(out, to);
-    Taken { state: q, written }
+    AfterPages { state: q, written }
 }
 
 /// Every whole field of the bytes, or those of the first pages, up to one that cannot be written: a page takes none only
@@ -78,7 +75,7 @@ pub fn take_piece(
     labels: &mut [u32],
     marks: &mut [u64],
     next: &mut [u64],
-) -> Taken
+) -> AfterPages
     ensures { λ r.
         ⌜ (r .written ≡ true → pageOf (r .state) (now (out .exit)) (now (rows .exit))
         (now (lefts .exit)) (now (rights .exit)) (now (labels .exit)) (now (marks .exit)) (now (next .exit))
@@ -100,15 +97,15 @@ pub fn take_piece(
         let written = t.written;
         q = t.state;
         if !written | (q.at == at) {
-            return Taken { state: q, written };
+            return AfterPages { state: q, written };
         }
     }
     let written = true;
-    Taken { state: q, written }
+    AfterPages { state: q, written }
 }
 
 /// The end of the input, where so many bytes are left: the rest of the trace.
-pub fn end(s: RunState, left: usize, out: &mut [u8]) -> Taken
+pub fn end(s: RunState, left: usize, out: &mut [u8]) -> AfterPages
     ensures { λ r.
         ⌜ ((ws : List (List ℕ)) (ls rs bs ms ns : List ℕ)
         → pageOf (r .state) (now (out .exit)) ws ls rs bs ms ns ≡ lastPage left (pageOf s (now (out .entry)) ws ls rs bs ms ns)) ⌝ }
@@ -118,5 +115,5 @@ pub fn end(s: RunState, left: usize, out: &mut [u8]) -> Taken
     let q = trace_replay::finish(p, left, out);
     let to = q.to;
     let written = flush(out, to);
-    Taken { state: q, written }
+    AfterPages { state: q, written }
 }

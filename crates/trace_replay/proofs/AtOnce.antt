@@ -1,22 +1,15 @@
 -- A file fed at once: the first page, fed with room to spare and finished, holds its trace. (`Cutting.antt`: in pieces, and page by page.)
 use Prim.Native.Nat.{ℕ, _+_, _-_, _≤_}
-use mathlib.Core.Path.{_≡_, sym, ap, _∙_}
-use mathlib.Core.Bool.{Bool, true, false, _&&_, _||_, cond}
+use mathlib.Core.{Path.{_≡_, sym, ap, _∙_}, Bool.{Bool, true, false, _&&_, _||_, cond}}
 use mathlib.Core.List.{List, [], _++_, append-nil, append-assoc}
-use native.Mathlib.Nat.{zero-add, add-zero}
-use native.Mathlib.Omega.{arith}
-use lib.Dec.{leb, eqb}
-use lib.ListN.{length, drop, length-drop, length-append}
-use lib.Seq.{sets}
+use native.Mathlib.{Nat.{zero-add, add-zero}, Omega.arith}
+use lib.{Dec.{leb, eqb}, ListN.{length, drop, length-drop, length-append}, Seq.sets}
 use borrow.Author.Tests.{leb-true, le-leb}
-use Rattle.lines.specs.Line.{header, givenRoom, room}
-use Rattle.lines.proofs.Puts.{sets-append}
-use Rattle.trace_field.specs.Run.{Told, malformed}
-use Rattle.trace_field.specs.Page.{Page, written, breaks, fieldRoom}
+use Rattle.lines.{specs.Line.{header, givenRoom, room}, proofs.Puts.sets-append}
+use Rattle.trace_field.specs.{Run.{Told, malformed}, Page.{Page, written, breaks, fieldRoom}}
 use Rattle.trace_field.proofs.Pages.{breaks-fits}
-use Rattle.trace_replay.specs.Trace.{Fed, after, feed, finished, fresh, printed, traceOf}
+use Rattle.trace_replay.specs.{Trace.{Fed, after, feed, finished, fresh, printed, traceOf}, Laws.{Holds, AtOnce}}
 use Rattle.trace_replay.specs.Feed.{feedPage, finishPage, firstPage}
-use Rattle.trace_replay.specs.Laws.{Holds, AtOnce}
 use Rattle.trace_replay.proofs.Pages.{fits, Reaches, page-reaches, page-done}
 
 -- Lines behind what stands at the front of a buffer.

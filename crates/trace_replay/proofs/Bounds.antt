@@ -1,21 +1,13 @@
 -- Pages that the code makes: what they hold is in their buffers.
 use Prim.Native.Nat.{ℕ, _+_, _≤_}
-use mathlib.Core.Path.{_≡_, refl, ap, subst, sym}
-use mathlib.Core.Bool.{Bool, true, false, _&&_, _||_, cond}
-use mathlib.Core.List.{List, []}
+use mathlib.Core.{Path.{_≡_, refl, ap, subst, sym}, Bool.{Bool, true, false, _&&_, _||_, cond}, List.{List, []}}
 use native.Mathlib.Omega.{arith}
-use lib.Dec.{leb, eqb}
-use lib.ListN.{length, replicate}
-use lib.Seq.{length-sets}
+use lib.{Dec.{leb, eqb}, ListN.{length, replicate}, Seq.length-sets}
 use borrow.Author.Tests.{leb-true}
-use Rattle.lines.specs.Line.{header, givenRoom, room}
-use Rattle.lines.proofs.Lengths.{line-short, header-short}
-use Rattle.trace_field.specs.Run.{malformed}
-use Rattle.trace_field.specs.Page.{Page, written, breaks}
-use Rattle.trace_field.proofs.Pages.{breaks-fits, breaks-short}
-use Rattle.trace_field.proofs.Room.{Within}
-use Rattle.trace_replay.specs.Trace.{fresh}
-use Rattle.trace_replay.specs.Feed.{feedPage, finishPage, firstPage}
+use Rattle.lines.{specs.Line.{header, givenRoom, room}, proofs.Lengths.{line-short, header-short}}
+use Rattle.trace_field.specs.{Run.malformed, Page.{Page, written, breaks}}
+use Rattle.trace_field.proofs.{Pages.{breaks-fits, breaks-short}, Room.Within}
+use Rattle.trace_replay.specs.{Trace.fresh, Feed.{feedPage, finishPage, firstPage}}
 use Rattle.trace_replay.proofs.PageEnds.{page-within}
 
 -- A page x that is equal to one that holds no more than its buffer.

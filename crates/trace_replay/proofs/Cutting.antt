@@ -1,24 +1,17 @@
 -- However a file is cut into pieces, and its trace into pages: what is written in all is the file's trace.
 use Prim.Native.Nat.{ℕ, suc, _+_, _≤_}
-use mathlib.Core.Path.{_≡_, refl, sym, ap, _∙_}
-use mathlib.Core.Bool.{Bool, true, false, _&&_, _||_, cond}
+use mathlib.Core.{Path.{_≡_, refl, sym, ap, _∙_}, Bool.{Bool, true, false, _&&_, _||_, cond}}
 use mathlib.Core.List.{List, [], _∷_, _++_, append-nil, append-assoc, flatten}
 use native.Mathlib.{Nat.zero-add, Omega.arith}
-use lib.Dec.{leb, eqb}
-use lib.ListN.{length, take, drop}
-use lib.Seq.{sets, length-sets}
+use lib.{Dec.{leb, eqb}, ListN.{length, take, drop}, Seq.{sets, length-sets}}
 use borrow.Author.Tests.{le-leb}
-use Rattle.lines.specs.Line.{header, givenRoom, room}
-use Rattle.lines.proofs.Lengths.{line-short, header-short}
-use Rattle.trace_field.specs.Run.{Run, Told, malformed}
-use Rattle.trace_field.specs.Page.{Page, written, fieldRoom}
-use Rattle.trace_field.proofs.Pages.{cond-true}
+use Rattle.lines.{specs.Line.{header, givenRoom, room}, proofs.Lengths.{line-short, header-short}}
+use Rattle.trace_field.{specs.{Run.{Run, Told, malformed}, Page.{Page, written, fieldRoom}}, proofs.Pages.cond-true}
 use Rattle.trace_replay.specs.Trace.{Fed, feedIn, feed, finished, fresh, printed, traceOf}
-use Rattle.trace_replay.specs.Feed.{finishPage, firstPage}
-use Rattle.trace_replay.specs.Pieces.{held, atFront, fromStart, Written, pagesOf, Between, begun, afterPiece, afterPieces, lastPage, afterEnd}
-use Rattle.trace_replay.specs.Laws.{CutAnywhere, StoppedEarly}
-use Rattle.trace_replay.proofs.Feeding.{feed-pieces, joined}
-use Rattle.trace_replay.proofs.AtOnce.{finish-writes}
+use Rattle.trace_replay.specs.{Feed.{finishPage, firstPage}, Pieces.{afterPieces, lastPage, afterEnd}}
+use Rattle.trace_replay.specs.Pieces.{held, atFront, fromStart, Written, pagesOf, Between, begun, afterPiece}
+use Rattle.trace_replay.specs.Laws.{CutAnywhere, OverBeforeEnd}
+use Rattle.trace_replay.proofs.{Feeding.{feed-pieces, joined}, AtOnce.finish-writes}
 use Rattle.trace_replay.proofs.PageEnds.{front-of, pages-told, pages-within, pages-over}
 
 -- What was told from the front of a buffer, where it fits, is what the page holds.
@@ -135,7 +128,7 @@ unfolding afterPieces
 pieces-append s [] ds = refl
 pieces-append s (c ∷ cs) ds = pieces-append (afterPiece s c) cs ds
 
-pub stopped-early : StoppedEarly
-stopped-early out cs ds h over =
+pub over-before-end : OverBeforeEnd
+over-before-end out cs ds h over =
     sym (over-ends (afterPieces (begun out) cs) ds over) ∙ ap (λ (s : Between). afterEnd s .bytes) (sym (pieces-append (begun out) cs ds))
     ∙ cut-anywhere out (cs ++ ds) h

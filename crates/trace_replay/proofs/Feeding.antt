@@ -1,21 +1,14 @@
 -- Feeding a run: one field and then the rest; and bytes behind others are fed as with them.
 use Prim.Native.Nat.{ℕ, zero, suc, _<_, _≤_}
-use mathlib.Core.Path.{_≡_, refl, sym, ap, _∙_}
-use mathlib.Core.Bool.{Bool, true, false}
-use mathlib.Core.List.{List, [], _∷_, _++_, append-assoc}
+use mathlib.Core.{Path.{_≡_, refl, sym, ap, _∙_}, Bool.{Bool, true, false}, List.{List, [], _∷_, _++_, append-assoc}}
 use native.Mathlib.Omega.{arith}
-use lib.ListN.{length, getD, drop, length-drop}
-use lib.Dec.{leb}
+use lib.{ListN.{length, getD, drop, length-drop}, Dec.leb, Seq.{take-append-le, drop-append-le}}
 use borrow.Author.Tests.{leb-true, leb-false}
-use lib.Seq.{take-append-le, drop-append-le}
 use Rattle.runfile.specs.Field.{twoAt, longestField, contentOf, missing, fieldOf}
-use Rattle.runfile.specs.declared.{Field.Field, Found.Found}
-use Rattle.runfile.specs.declared.Field.the-variants.{Open, Each, Malformed, Cut, End}
+use Rattle.runfile.specs.declared.{Field.{Field, the-variants.{Open, Each, Malformed, Cut, End}}, Found.Found}
 use Rattle.runfile.proofs.Prefix.{Seen, seen, ended, cut, wrong, whole, same-wrong, same-whole}
-use Rattle.trace_field.specs.Run.{Run, Told, malformed, carried}
-use Rattle.trace_field.specs.Page.{BytesThere}
-use Rattle.trace_field.proofs.Pages.{cond-true, cond-false}
-use Rattle.trace_field.proofs.Fields.{content-there}
+use Rattle.trace_field.specs.{Run.{Run, Told, malformed, carried}, Page.BytesThere}
+use Rattle.trace_field.proofs.{Pages.{cond-true, cond-false}, Fields.content-there}
 use Rattle.trace_replay.specs.Trace.{Fed, unmoved, after, feedIn, feed}
 
 -- What a run makes of the field at the head of b.

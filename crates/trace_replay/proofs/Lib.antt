@@ -6,4 +6,4 @@ pub mod PageLoop
 pub mod Bounds
 pub mod AtOnce
 pub mod Cutting
-pub mod Left
+pub mod Remainder

@@ -1,26 +1,21 @@
 -- The loop that feeds a page: a field, and then the rest; and it comes to its end.
 use Prim.Native.Nat.{ℕ, zero, suc, _+_, _-_, _<_, _≤_}
-use mathlib.Core.Path.{_≡_, refl, sym, ap, _∙_}
-use mathlib.Core.Bool.{Bool, true, false}
-use mathlib.Core.List.{List}
+use mathlib.Core.{Path.{_≡_, refl, sym, ap, _∙_}, Bool.{Bool, true, false}, List.List}
 use native.Mathlib.Omega.{arith}
-use lib.Dec.{leb, eqb}
-use lib.ListN.{length, drop, length-drop}
+use lib.{Dec.{leb, eqb}, ListN.{length, drop, length-drop}}
 use borrow.Author.Tests.{eqb-false, eq-eqb, ne-eqb}
 use Rattle.trace_field.specs.Page.{Page, written, carries, moved, fieldRoom, takes}
-use Rattle.trace_field.proofs.Pages.{cond-true, cond-false}
-use Rattle.trace_field.proofs.Fields.{takes-none}
-use Rattle.runfile.specs.Field.{fieldOf}
-use Rattle.runfile.specs.declared.Found.{Found}
+use Rattle.trace_field.proofs.{Pages.{cond-true, cond-false}, Fields.takes-none}
+use Rattle.runfile.specs.{Field.fieldOf, declared.Found.Found}
 use Rattle.trace_replay.specs.Feed.{feedPageIn, feedPage}
 use Rattle.trace_replay.proofs.Feeding.{sizeAt, Next, waits, breaks, moves, next-of}
 
 module _ (bytes : List ℕ) where
   -- With room, the field at the reading position is carried out, and the position moves behind it.
-  pub taken : (p : Page) → leb (p .to + fieldRoom) (length (p .out)) ≡ true
+  pub field-carried : (p : Page) → leb (p .to + fieldRoom) (length (p .out)) ≡ true
       → takes bytes p ≡ moved (carries p (fieldOf (p .run .opened) (drop (p .at) bytes) .field) (drop (p .at) bytes)) (sizeAt (p .run) (drop (p .at) bytes))
   unfolding takes sizeAt
-  taken p e = cond-true (leb (p .to + fieldRoom) (length (p .out))) _ _ e
+  field-carried p e = cond-true (leb (p .to + fieldRoom) (length (p .out))) _ _ e
 
   -- A field that takes bytes takes some that are there.
   size-within : (p : Page) → sizeAt (p .run) (drop (p .at) bytes) ≤ length bytes - p .at
@@ -37,7 +32,7 @@ module _ (bytes : List ℕ) where
   goes-on p h = go (leb (p .to + fieldRoom) (length (p .out))) refl
     where
       moved-to : leb (p .to + fieldRoom) (length (p .out)) ≡ true → takes bytes p .at ≡ p .at + sizeAt (p .run) (drop (p .at) bytes)
-      moved-to e = ap (λ (x : Page). x .at) (taken p e)
+      moved-to e = ap (λ (x : Page). x .at) (field-carried p e)
 
       go : (b : Bool) → leb (p .to + fieldRoom) (length (p .out)) ≡ b → (p .at < takes bytes p .at) × (takes bytes p .at ≤ length bytes)
       go true e =

@@ -1,18 +1,13 @@
 -- A page fed from the front of its buffer: it holds no more than the buffer, it goes forward, and where it goes nowhere nothing is left.
 use Prim.Native.Nat.{ℕ, zero, suc, _+_, _-_, _<_, _≤_}
-use mathlib.Core.Path.{_≡_, refl, sym, ap, _∙_, subst}
-use mathlib.Core.Bool.{Bool, true, false, cond}
+use mathlib.Core.{Path.{_≡_, refl, sym, ap, _∙_, subst}, Bool.{Bool, true, false, cond}}
 use mathlib.Core.List.{List, [], _++_, append-nil}
 use native.Mathlib.{Nat.zero-add, Omega.arith}
-use lib.Dec.{eqb}
-use lib.ListN.{length, take, drop}
-use lib.Seq.{sets, sets-eq, take-append-seam}
+use lib.{Dec.eqb, ListN.{length, take, drop}, Seq.{sets, sets-eq, take-append-seam}}
 use borrow.Author.Tests.{le-leb, eqb-true, eqb-false, eq-eqb, ne-eqb}
 use Rattle.trace_field.specs.Page.{Page, fieldRoom, takes}
-use Rattle.trace_field.proofs.Pages.{cond-true, cond-false}
-use Rattle.trace_field.proofs.Room.{Within, takes-within}
-use Rattle.trace_replay.specs.Trace.{Fed, after}
-use Rattle.trace_replay.specs.Feed.{feedPageIn, feedPage}
+use Rattle.trace_field.proofs.{Pages.{cond-true, cond-false}, Room.{Within, takes-within}}
+use Rattle.trace_replay.specs.{Trace.{Fed, after}, Feed.{feedPageIn, feedPage}}
 use Rattle.trace_replay.specs.Pieces.{held, atFront, nextPage, Written, pagesIn, pagesOf}
 use Rattle.trace_replay.proofs.Loop.{goes-on, feed-over, feed-still, feed-next}
 use Rattle.trace_replay.proofs.Pages.{fits, ahead, Done, page-reaches, over-done, still-done}

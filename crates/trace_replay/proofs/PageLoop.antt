@@ -1,16 +1,12 @@
 -- The loop over the pages of a piece: a page, and then the rest; and the rounds, a piece and then the next.
 use Prim.Native.Nat.{ℕ, zero, suc, _-_, _<_, _≤_}
-use mathlib.Core.Path.{_≡_, refl, sym, ap, _∙_}
-use mathlib.Core.Bool.{Bool, true, false}
-use mathlib.Core.List.{List, [], _∷_, _++_}
+use mathlib.Core.{Path.{_≡_, refl, sym, ap, _∙_}, Bool.{Bool, true, false}, List.{List, [], _∷_, _++_}}
 use native.Mathlib.Omega.{arith}
-use lib.Dec.{leb, eqb}
-use lib.ListN.{length, drop}
+use lib.{Dec.{leb, eqb}, ListN.{length, drop}}
 use borrow.Author.Tests.{eqb-true, eqb-false, le-leb, lt-leb, leb-true, leb-false}
-use Rattle.trace_field.specs.Page.{Page}
-use Rattle.trace_field.proofs.Pages.{cond-true, cond-false}
-use Rattle.trace_replay.specs.Pieces.{fromStart, nextPage, Written, pagesIn, pagesOf, Between, begun, afterPiece, afterPieces, lastPage, afterEnd}
-use Rattle.trace_replay.specs.Pieces.{roundPage, Gone, ended, stopped}
+use Rattle.trace_field.{specs.Page.Page, proofs.Pages.{cond-true, cond-false}}
+use Rattle.trace_replay.specs.Pieces.{fromStart, nextPage, Written, pagesIn, pagesOf, Between, begun, afterPiece}
+use Rattle.trace_replay.specs.Pieces.{afterPieces, lastPage, afterEnd, roundPage, Gone, ended, stopped}
 use Rattle.trace_replay.proofs.PageEnds.{next-onward, pages-over, pages-still, pages-next}
 
 abbrev left-at : Written → Page

@@ -1,22 +1,17 @@
 -- What a page holds after it was fed, and what is left to do then, is what was to do; with room for a field nothing is left.
 use Prim.Native.Nat.{ℕ, zero, suc, _+_, _-_, _<_}
-use mathlib.Core.Path.{_≡_, refl, sym, ap, _∙_, subst}
-use mathlib.Core.Bool.{Bool, true, false}
-use mathlib.Core.List.{List, [], _++_, append-assoc}
+use mathlib.Core.{Path.{_≡_, refl, sym, ap, _∙_, subst}, Bool.{Bool, true, false}, List.{List, [], _++_, append-assoc}}
 use native.Mathlib.{Nat.add-zero, Omega.arith}
-use lib.Dec.{leb, eqb}
-use lib.ListN.{length, drop, length-append}
-use lib.Seq.{sets, drop-drop}
+use lib.{Dec.{leb, eqb}, ListN.{length, drop, length-append}, Seq.{sets, drop-drop}}
 use borrow.Author.Tests.{eqb-true, eqb-false, eq-eqb}
 use Rattle.model.proofs.tests.Truth.{not-both}
 use Rattle.lines.proofs.Puts.{sets-append}
-use Rattle.trace_field.specs.Page.{Page, written, fieldRoom, takes}
-use Rattle.trace_field.proofs.Fields.{takes-none}
-use Rattle.trace_replay.specs.Trace.{Fed, unmoved, after, feed}
-use Rattle.trace_replay.specs.Feed.{feedPageIn, feedPage}
-use Rattle.trace_replay.proofs.Feeding.{told, sizeAt, Next, waits, breaks, moves, next-of, feed-waits, broken, feed-step}
+use Rattle.trace_field.{specs.Page.{Page, written, fieldRoom, takes}, proofs.Fields.takes-none}
+use Rattle.trace_replay.specs.{Trace.{Fed, unmoved, after, feed}, Feed.{feedPageIn, feedPage}}
+use Rattle.trace_replay.proofs.Feeding.{told, sizeAt, Next, waits, breaks, moves, next-of, feed-waits, broken}
+use Rattle.trace_replay.proofs.Feeding.{feed-step}
+use Rattle.trace_replay.proofs.Loop.{field-carried, goes-on, feed-over, feed-still, feed-next}
 use Rattle.trace_replay.proofs.Feeding as run
-use Rattle.trace_replay.proofs.Loop.{taken, goes-on, feed-over, feed-still, feed-next}
 
 abbrev pub fits : Page → Bool
 fits p = leb (p .to + fieldRoom) (length (p .out))
@@ -57,7 +52,7 @@ module _ (bytes : List ℕ) where
     reaches-take : p .run .over ≡ false → fits p ≡ true → Reaches bytes p (takes bytes p)
     unfolding written told sizeAt
     reaches-take e f =
-        subst (Reaches bytes p) (sym (taken bytes p f))
+        subst (Reaches bytes p) (sym (field-carried bytes p f))
         (record {
           lines = told (p .run) b .lines;
           out = refl;
@@ -88,7 +83,7 @@ module _ (bytes : List ℕ) where
   pub still-done : (p : Page) → fits p ≡ true → takes bytes p .at ≡ p .at → Done (takes bytes p)
   unfolding written told sizeAt
   still-done p f h =
-      let e = taken bytes p f in
+      let e = field-carried bytes p f in
       let z : sizeAt (p .run) (drop (p .at) bytes) ≡ 0 = let m = ap (λ (x : Page). x .at) e in omega (arith, m, h) in
       subst Done (sym e)
       (subst (λ (n : ℕ). feed (told (p .run) (b p) .run) (drop n bytes) ≡ unmoved (told (p .run) (b p) .run) (drop n bytes))

@@ -1,12 +1,9 @@
 -- A file fed to a run over lent tables: field by field, while the buffer has room.
-use mathlib.Core.Bool.{_&&_, _||_, cond}
-use mathlib.Core.{List.List, Path._≡_}
+use mathlib.Core.{Bool.{_&&_, _||_, cond}, List.List, Path._≡_}
 use Prim.Native.Nat.{ℕ, zero, suc}
-use lib.Dec.{eqb}
-use lib.ListN.{length, replicate}
+use lib.{Dec.eqb, ListN.{length, replicate}}
 use Rattle.lines.specs.Line.{header, givenRoom, room}
-use Rattle.trace_field.specs.Page.{Page, pageOf, written, breaks, takes}
-use Rattle.trace_field.specs.declared.RunState.{RunState}
+use Rattle.trace_field.specs.{Page.{Page, pageOf, written, breaks, takes}, declared.RunState.RunState}
 use Rattle.trace_replay.specs.Trace.{fresh}
 
 -- At most n fields: none once the run is over, none after one that takes no bytes.

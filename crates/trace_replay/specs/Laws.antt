@@ -1,16 +1,11 @@
 -- What is promised of a trace: it is `traceOf` the file, however the file comes and however the trace is written out.
 -- (Document 01: The run file and its trace.)
-use mathlib.Core.Bool.{true}
-use mathlib.Core.Path.{_≡_}
-use mathlib.Core.List.{List, _++_, flatten}
+use mathlib.Core.{Bool.true, Path._≡_, List.{List, _++_, flatten}}
 use Prim.Native.Nat.{ℕ, _+_, _-_, _≤_}
-use lib.Dec.{leb}
-use lib.ListN.{length}
-use lib.Seq.{sets}
+use lib.{Dec.leb, ListN.length, Seq.sets}
 use Rattle.lines.specs.Line.{room}
 use Rattle.trace_field.specs.Page.{Page, fieldRoom}
-use Rattle.trace_replay.specs.Trace.{traceOf}
-use Rattle.trace_replay.specs.Feed.{feedPage, finishPage, firstPage}
+use Rattle.trace_replay.specs.{Trace.traceOf, Feed.{feedPage, finishPage, firstPage}}
 use Rattle.trace_replay.specs.Pieces.{begun, afterPieces, afterEnd}
 
 -- In whatever pieces a file comes, with any buffer that has room for a field: all that is written is the file's trace.
@@ -18,8 +13,8 @@ abbrev pub CutAnywhere : Type 0
 CutAnywhere = (out : List ℕ) (cs : List (List ℕ)) → fieldRoom ≤ length out → afterEnd (afterPieces (begun out) cs) .bytes ≡ traceOf (flatten cs)
 
 -- A run that is over after some pieces has written the file's trace, whatever pieces are still to come.
-abbrev pub StoppedEarly : Type 0
-StoppedEarly =
+abbrev pub OverBeforeEnd : Type 0
+OverBeforeEnd =
     (out : List ℕ) (cs ds : List (List ℕ)) → fieldRoom ≤ length out → afterPieces (begun out) cs .page .run .over ≡ true
     → afterPieces (begun out) cs .bytes ≡ traceOf (flatten (cs ++ ds))
 

@@ -1,11 +1,8 @@
 -- A file that comes in pieces, carried out with one buffer: fed page by page, and each page written out. (Document 01: The run file and
 -- its trace.)
-use mathlib.Core.Bool.{true, cond}
-use mathlib.Core.Path.{_≡_}
-use mathlib.Core.List.{List, [], _∷_, _++_}
+use mathlib.Core.{Bool.{true, cond}, Path._≡_, List.{List, [], _∷_, _++_}}
 use Prim.Native.Nat.{ℕ, zero, suc}
-use lib.Dec.{eqb, leb}
-use lib.ListN.{length, take, drop}
+use lib.{Dec.{eqb, leb}, ListN.{length, take, drop}}
 use Rattle.trace_field.specs.Page.{Page}
 use Rattle.trace_replay.specs.Feed.{feedPage, finishPage, firstPage}
 

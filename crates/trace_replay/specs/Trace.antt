@@ -1,9 +1,7 @@
 -- The trace of a whole run file. (Document 01: The run file and its trace.)
-use mathlib.Core.Bool.{false, _&&_, _||_, cond}
-use mathlib.Core.List.{List, [], _++_}
+use mathlib.Core.{Bool.{false, _&&_, _||_, cond}, List.{List, [], _++_}}
 use Prim.Native.Nat.{ℕ, zero, suc}
-use lib.Dec.{eqb}
-use lib.ListN.{length, drop, replicate}
+use lib.{Dec.eqb, ListN.{length, drop, replicate}}
 use Rattle.model.specs.Tables.{unused, tablesOf, unopened}
 use Rattle.runfile.specs.Field.{fieldOf}
 use Rattle.lines.specs.Line.{header}

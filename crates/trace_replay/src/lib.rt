@@ -4,8 +4,7 @@
 //! that, in whatever pieces the file comes; reading it and writing the buffer out is left to the program.
 use model::Control;
 use trace_field::RunState;
-ghost use mathlib.Core.Path.{_≡_};
-ghost use mathlib.Core.List.{List};
+ghost use mathlib.Core.{Path._≡_, List.List};
 ghost use Prim.Native.Nat.{ℕ};
 ghost use Rattle.trace_field.specs.Page.{pageOf};
 ghost use Rattle.trace_replay.specs.Feed.{feedPage, finishPage, Begins};

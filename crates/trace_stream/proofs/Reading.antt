@@ -1,23 +1,16 @@
 -- What a round leaves, as the definitions have it.
 use Prim.Native.Nat.{ℕ, _-_, _<_, _≤_}
-use mathlib.Core.Path.{_≡_, refl, sym, ap, _∙_}
-use mathlib.Core.Bool.{Bool, true, false, not, _&&_, _||_}
-use mathlib.Core.List.{List, [], _++_}
+use mathlib.Core.{Path.{_≡_, refl, sym, ap, _∙_}, Bool.{Bool, true, false, not, _&&_, _||_}, List.{List, [], _++_}}
 use native.Mathlib.Omega.{arith}
-use lib.Dec.{leb, ltb}
-use lib.ListN.{length, take, drop, take-append-drop}
-use lib.Seq.{slice, take-take, length-slice}
+use lib.{Dec.{leb, ltb}, ListN.{length, take, drop, take-append-drop}, Seq.{slice, take-take, length-slice}}
 use borrow.Author.Tests.{le-leb, lt-leb, ltb-true, lt-ltb, le-ltb, not-true, not-false}
 use Rattle.model.proofs.tests.Truth.{not-both, and-true, or-right}
 use Rattle.runfile.specs.Field.{longestField}
-use Rattle.trace_field.specs.Page.{Page, pageOf, fieldRoom}
-use Rattle.trace_field.specs.declared.RunState.{RunState}
+use Rattle.trace_field.specs.{Page.{Page, pageOf, fieldRoom}, declared.RunState.RunState}
 use Rattle.trace_field.proofs.Pages.{cond-true, cond-false}
-use Rattle.trace_replay.specs.Trace.{fresh}
-use Rattle.trace_replay.specs.Feed.{Zeros, Begins}
+use Rattle.trace_replay.specs.{Trace.fresh, Feed.{Zeros, Begins}}
 use Rattle.trace_replay.specs.Pieces.{fromStart, pagesOf, begun, afterPieces, lastPage, roundPage, Gone}
-use Rattle.trace_replay.proofs.PageLoop.{Stands, round-stands, round-gone}
-use Rattle.trace_replay.proofs.Left.{stands-leaves}
+use Rattle.trace_replay.proofs.{PageLoop.{Stands, round-stands, round-gone}, Remainder.stands-leaves}
 
 pub never : {P : Type 0} → _≡_ {A = Bool} true false → P
 never z = absurd (not-both refl z)

@@ -4,17 +4,13 @@
 mod refill;
 
 use trace_field::RunState;
-use trace_pages::Taken;
+use trace_pages::AfterPages;
 ghost use Prim.Native.Nat.{_≤_, _<_, _-_};
-ghost use mathlib.Core.Path.{_≡_};
-ghost use mathlib.Core.Bool.{true, false, not, _&&_};
-ghost use lib.Dec.{ltb};
-ghost use lib.ListN.{length, take};
-ghost use lib.Seq.{slice};
+ghost use mathlib.Core.{Path._≡_, Bool.{true, false, not, _&&_}};
+ghost use lib.{Dec.ltb, ListN.{length, take}, Seq.slice};
 ghost use Rattle.runfile.specs.Field.{longestField};
 ghost use Rattle.trace_field.specs.Page.{pageOf, fieldRoom};
-ghost use Rattle.trace_replay.specs.Feed.{Zeros};
-ghost use Rattle.trace_replay.specs.Pieces.{roundPage, Gone};
+ghost use Rattle.trace_replay.specs.{Feed.Zeros, Pieces.{roundPage, Gone}};
 
 // A run after a read: how many bytes the input holds, those from `state.at` on left; whether to read on; whether a read or write failed.
 struct Round {
@@ -102,7 +98,7 @@ fn rounds(
     labels: &mut [u32],
     marks: &mut [u64],
     next: &mut [u64],
-) -> Taken
+) -> AfterPages
     requires { ⌜ longestField ≤ length (now input) ⌝ }
     requires { ⌜ fieldRoom ≤ length (now out) ⌝ }
     requires { ⌜ Zeros (now rows) (now lefts) (now rights) (now labels) (now marks) (now next) ⌝ }
@@ -113,7 +109,7 @@ fn rounds(
     let first = trace_pages::begin(out);
     let mut s = first.state;
     if !first.written {
-        return Taken {
+        return AfterPages {
             state: s,
             written: false,
         };
@@ -137,14 +133,14 @@ fn rounds(
         );
         s = r.state;
         if r.failed | !r.going {
-            return Taken {
+            return AfterPages {
                 state: s,
                 written: !r.failed,
             };
         }
         have = r.have;
     }
-    Taken {
+    AfterPages {
         state: s,
         written: false,
     }

@@ -3,8 +3,7 @@
 //! No contract says what the system reads. A read of no bytes is the end of the input only where the buffer has room; so it must.
 ghost use Prim.Native.Nat.{_≤_, _<_, _-_};
 ghost use mathlib.Core.Path.{_≡_};
-ghost use lib.ListN.{length, take};
-ghost use lib.Seq.{slice};
+ghost use lib.{ListN.{length, take}, Seq.slice};
 
 /// What a buffer holds: how many bytes were left, and how many there are now, no more at the end of the input.
 pub struct Filled {

@@ -1,25 +1,16 @@
 -- What the loop stores is what the walk meets, turned to run from left to right.
-use mathlib.Core.Path.{_≡_, refl, sym, ap, subst, _∙_}
-use mathlib.Core.Bool.{Bool, true, false, cond}
+use mathlib.Core.{Path.{_≡_, refl, sym, ap, subst, _∙_}, Bool.{Bool, true, false, cond}}
 use mathlib.Core.List.{List, [], _∷_, _++_, map, map-append, reverse, reverse-cons}
 use Prim.Native.Nat.{ℕ, zero, suc, _+_, _-_, _<_, _≤_}
-use native.Mathlib.Nat.{zero-add}
-use native.Mathlib.Omega.{arith}
-use lib.Dec.{eqb, leb}
-use borrow.Author.Tests.{leb-true}
-use lib.ListN.{drop, getD, length, length-map, length-reverse, length-set, set}
+use native.Mathlib.{Nat.zero-add, Omega.arith}
+use lib.{Dec.{eqb, leb}, ListN.{drop, getD, length, length-map, length-reverse, length-set, set}}
 use lib.Seq.{append-snoc, sets, sets-eq}
+use borrow.Author.Tests.{leb-true}
 use Rattle.word.specs.Link.{linkOf}
-use Rattle.model.specs.declared.Entry.{Entry}
-use Rattle.model.specs.Tables.{Tables}
-use Rattle.model.specs.Sound.{from1, linkSound}
-use Rattle.model.specs.Walk.{Walk, along, andThen, broken, contents, entries, isBroken, met}
-use Rattle.model.proofs.tests.Truth.{and-true, not-both, split}
-use Rattle.walk.specs.declared.Way.{Way}
-use Rattle.walk.specs.Ways.{wayOf, noneOn, linksOn, ahead, turnedBack}
-use Rattle.walk.proofs.Along.{rest, waits, nothing, off}
-use Rattle.waiting.specs.Waiting.{onto}
-use Rattle.waiting.specs.Laid.{Inside, trail, place, laid}
+use Rattle.model.{specs.{declared.Entry.Entry, Sound.{from1, linkSound}}, proofs.tests.Truth.{and-true, not-both}}
+use Rattle.model.specs.Walk.{Walk, along, andThen, broken, entries, isBroken, met}
+use Rattle.walk.{specs.{declared.Way.Way, Ways.{linksOn, ahead, turnedBack}}, proofs.Along.rest}
+use Rattle.waiting.specs.{Waiting.onto, Laid.{Inside, trail, place, laid}}
 
 -- A walk that is not broken meets the entries of as many slots along the links.
 abbrev Follows : List ℕ → List ℕ → ℕ → Walk → Type 0
@@ -125,51 +116,39 @@ as-many : (w : Way) (l : List Entry) (up : Bool)
 as-many w l true = refl
 as-many w l false = length-reverse l
 
--- Of a walk that is not broken, as many slots along the links as it meets keep to the slots.
-module _ (q : Tables) (w : Way) (e : w ≡ wayOf (q .control)) (n : ℕ) where
-  abbrev Keeps : Walk → Type 0
-  Keeps v =
-      isBroken v ≡ false → n ≡ length (met v)
-      → Inside (w .slots) (trail (linksOn w (q .lefts) (q .rights)) (q .labels) n (w .first))
+-- Of a walk that is not broken, as many slots along the links as it meets keep to the slots, and what is stored of them is what it meets.
+module _ (w : Way) (lefts rights labels : List ℕ) (n : ℕ) where
+  abbrev met-along : ℕ → List Entry
+  met-along m = trail (linksOn w lefts rights) labels m (w .first)
 
-  kept : (v : Walk) → Follows (linksOn w (q .lefts) (q .rights)) (q .labels) (w .first) v → Inside (w .slots) (met v) → Keeps (turnedBack w v)
+  abbrev Keeps : Walk → Type 0
+  Keeps v = isBroken v ≡ false → n ≡ length (met v) → Inside (w .slots) (met-along n)
+
+  kept : (v : Walk) → Follows (linksOn w lefts rights) labels (w .first) v → Inside (w .slots) (met v) → Keeps (turnedBack w v)
   kept broken f i b k = absurd (not-both refl b)
   kept (entries l) f i b k =
-      subst (λ (m : ℕ). Inside (w .slots) (trail (linksOn w (q .lefts) (q .rights)) (q .labels) m (w .first))) (sym (k ∙ as-many w l (w .rightward)))
-      (subst (Inside (w .slots)) (f refl) i)
+      subst (λ (m : ℕ). Inside (w .slots) (met-along m)) (sym (k ∙ as-many w l (w .rightward))) (subst (Inside (w .slots)) (f refl) i)
 
-  pub keeps : noneOn w ≡ false → Keeps (contents q)
-  keeps y =
-      split (from1 (w .slots) (w .first))
-      (λ z. subst Keeps (sym (waits q w e z)) (kept (ahead w (q .lefts) (q .rights) (q .labels))
-      (follows w (q .lefts) (q .rights) (q .labels) (w .slots) (w .first)) (inside w (q .lefts) (q .rights) (q .labels) (w .slots) (w .first))))
-      (λ z. subst Keeps (sym (off q w e z y)) (λ b k. absurd (not-both refl b)))
+  pub keeps : Keeps (turnedBack w (ahead w lefts rights labels))
+  keeps =
+      kept (ahead w lefts rights labels) (follows w lefts rights labels (w .slots) (w .first)) (inside w lefts rights labels (w .slots) (w .first))
 
-module _ (q : Tables) (w : Way) (e : w ≡ wayOf (q .control)) (g : Entry → ℕ) (n : ℕ) (t : List ℕ) where
-  abbrev Goal : Walk → Type 0
-  Goal v =
-      isBroken v ≡ false → n ≡ length (met v) → n ≤ length t
-      → laid (w .rightward) n 0 (map g (trail (linksOn w (q .lefts) (q .rights)) (q .labels) n (w .first))) t ≡ onto (map g (met v)) t
+  module _ (g : Entry → ℕ) (t : List ℕ) where
+    abbrev Goal : Walk → Type 0
+    Goal v =
+        isBroken v ≡ false → n ≡ length (met v) → n ≤ length t
+        → laid (w .rightward) n 0 (map g (met-along n)) t ≡ onto (map g (met v)) t
 
-  some : (v : Walk) → Follows (linksOn w (q .lefts) (q .rights)) (q .labels) (w .first) v → Goal (turnedBack w v)
-  some broken f b k h = absurd (not-both refl b)
-  some (entries l) f b k h =
-      let size = k ∙ as-many w l (w .rightward) in
-      ap (λ (m : ℕ). laid (w .rightward) m 0 (map g (trail (linksOn w (q .lefts) (q .rights)) (q .labels) m (w .first))) t) size
-      ∙ ap (λ (m : List Entry). laid (w .rightward) (length l) 0 (map g m) t) (sym (f refl))
-      ∙ stored w g l t (w .rightward) (omega arith)
+    some : (v : Walk) → Follows (linksOn w lefts rights) labels (w .first) v → Goal (turnedBack w v)
+    some broken f b k h = absurd (not-both refl b)
+    some (entries l) f b k h =
+        let size = k ∙ as-many w l (w .rightward) in
+        ap (λ (m : ℕ). laid (w .rightward) m 0 (map g (met-along m)) t) size
+        ∙ ap (λ (m : List Entry). laid (w .rightward) (length l) 0 (map g m) t) (sym (f refl))
+        ∙ stored w g l t (w .rightward) (omega arith)
 
-  none : Goal (entries [])
-  unfolding laid trail
-  none b k h = subst (λ (m : ℕ). laid (w .rightward) m 0 (map g (trail (linksOn w (q .lefts) (q .rights)) (q .labels) m (w .first))) t ≡ t) (sym k) refl
-
-  pub lays : Goal (contents q)
-  lays =
-      split (from1 (w .slots) (w .first))
-      (λ z. subst Goal (sym (waits q w e z))
-      (some (ahead w (q .lefts) (q .rights) (q .labels)) (follows w (q .lefts) (q .rights) (q .labels) (w .slots) (w .first))))
-      (λ z. split (noneOn w) (λ y. subst Goal (sym (nothing q w e y)) none)
-      (λ y. subst Goal (sym (off q w e z y)) (λ b k h. absurd (not-both refl b))))
+    pub lays : Goal (turnedBack w (ahead w lefts rights labels))
+    lays = some (ahead w lefts rights labels) (follows w lefts rights labels (w .slots) (w .first))
 
 -- What is still to be stored, one slot on.
 module _ (g : Entry → ℕ) (links labels : List ℕ) (up : Bool) (n : ℕ) where

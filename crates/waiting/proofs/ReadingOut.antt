@@ -1,27 +1,17 @@
 -- The answer: refused before the walk, by the walk, for want of room, or written.
-use mathlib.Core.Path.{_≡_, refl, sym, ap, _∙_}
-use mathlib.Core.Bool.{true, false}
-use mathlib.Core.List.{List, [], _∷_}
+use mathlib.Core.{Path.{_≡_, refl, sym, ap, subst, _∙_}, Bool.{Bool, true, false, cond}, List.{List, [], _∷_}}
 use Prim.Native.Nat.{ℕ, _<_, _≤_}
 use native.Mathlib.Omega.{arith}
-use lib.Dec.{ltb}
-use lib.ListN.{length}
+use lib.{Dec.ltb, ListN.length}
 use borrow.Author.Tests.{le-ltb, ltb-false, ltb-true, ne-eqb, not-false}
-use Rattle.model.specs.Tables.{Tables}
-use Rattle.model.specs.Sound.{controlSound, rowTests, rowsFit}
-use Rattle.model.specs.Walk.{contents, isBroken}
-use Rattle.model.specs.Refusals.{Rule, rule, first, tableRules}
-use Rattle.model.specs.Report.{waiting}
-use Rattle.model.proofs.tests.Rules.{tests, cleared, first-refused}
-use Rattle.model.proofs.tests.Truth.{or-false}
-use Rattle.walk.specs.declared.Tally.the-variants.{Broken, Labels}
-use Rattle.walk.specs.declared.Way.{Way}
-use Rattle.walk.specs.Ways.{wayOf, noneOn, linksOn}
-use Rattle.walk.specs.Counted.{counted}
-use Rattle.walk.proofs.Along.{nothing}
-use Rattle.walk.proofs.Counting.{all-counted, none-counted}
-use Rattle.waiting.specs.Waiting.{Written, kept, labelsOf, readOut, slotsOf, tooShort, waitingRefusal}
-use Rattle.waiting.specs.Laid.{Lays, trail, laid}
+use Rattle.model.specs.{Tables.Tables, Sound.{controlSound, rowTests, rowsFit}, Report.waiting}
+use Rattle.model.specs.{Walk.{Walk, broken, contents, entries, isBroken, met}, Refusals.{Rule, rule, first, tableRules}}
+use Rattle.model.proofs.tests.{Rules.{tests, cleared, first-refused}, Truth.{not-both, or-false, split}}
+use Rattle.walk.specs.declared.{Beginning.the-variants.At, Tally.the-variants.{Broken, Labels}, Way.Way}
+use Rattle.walk.specs.{Ways.{ahead, beginningOf, linksOn, turnedBack, wayOf}, Counted.counted}
+use Rattle.walk.proofs.{Along.begins-at, Counting.all-counted}
+use Rattle.waiting.specs.Waiting.{Written, kept, labelsOf, onto, readOut, slotsOf, tooShort, waitingRefusal}
+use Rattle.waiting.specs.{Waiting.writtenOut, Laid.{Inside, Lays, Walks, trail, laid}}
 use Rattle.waiting.proofs.Laid.{keeps, lays}
 
 -- Both tables have room.
@@ -49,54 +39,76 @@ module _ (q : Tables) (slots labels : List ℕ) where
     passed : (controlSound (q .control) ≡ true) × (rowsFit false (q .control .slots) q ≡ true)
     passed = let y = cleared rules refl (sym e ∙ z) in (not-false _ (y .0), not-false _ (y .1 .0))
 
-    -- With nothing waiting nothing is written.
-    pub empty : (w : Way) → w ≡ wayOf (q .control) → noneOn w ≡ true → kept 0 slots labels ≡ readOut q slots labels
-    unfolding readOut waitingRefusal waiting
-    empty w e z =
-        rw (passed .0, passed .1, nothing q w e z, le-ltb (length slots) 0 (omega arith), le-ltb (length labels) 0 (omega arith))
-
     -- The rows that the walk needs are there.
-    pub rows : (q .control .slots < length (q .lefts)) × (q .control .slots < length (q .rights)) × (q .control .slots < length (q .labels))
+    rows : (q .control .slots < length (q .lefts)) × (q .control .slots < length (q .rights)) × (q .control .slots < length (q .labels))
     unfolding rowsFit
     rows = let t = tests (rowTests false (q .control .slots) q) (passed .1) in (ltb-true _ _ (t .0), ltb-true _ _ (t .1 .0), ltb-true _ _ (t .1 .1 .0))
 
-    pub lost : Broken ≡ counted (contents q) → kept 34 slots labels ≡ readOut q slots labels
-    unfolding readOut waitingRefusal
-    lost t = rw (passed .0, passed .1, none-counted (contents q) t)
+    pub ready : (w : Way) → At w ≡ beginningOf (q .control) → Walks w (q .lefts) (q .rights) (q .labels)
+    unfolding wayOf
+    ready w b =
+        let at = begins-at (q .control) w b in
+        record { on = at .1; left-rows = rw (at .0) (rows .0); right-rows = rw (at .0) (rows .1); label-rows = rw (at .0) (rows .2) }
 
-    module _ (m : ℕ) (t : Labels m ≡ counted (contents q)) where
-      met-all : (isBroken (contents q) ≡ false) × (m ≡ waiting q)
-      unfolding waiting
-      met-all = all-counted (contents q) m t
+    pub reads : (v : Walk) → contents q ≡ v → writtenOut v slots labels ≡ readOut q slots labels
+    unfolding readOut waitingRefusal waiting
+    reads (entries l) e = rw (passed .0, passed .1, e) (split (tooShort (length l) slots labels) (λ h. rw h) (λ h. rw h))
+    reads broken e = rw (passed .0, passed .1, e)
 
-      pub short : tooShort m slots labels ≡ true → kept 12 slots labels ≡ readOut q slots labels
-      unfolding readOut waitingRefusal
-      short h =
-          let s : tooShort (waiting q) slots labels ≡ true = ap (λ (k : ℕ). tooShort k slots labels) (sym (met-all .1)) ∙ h in
-          rw (passed .0, passed .1, met-all .0, s)
+-- What comes of nothing waiting, and of what the count says of the walk.
+module _ (slots labels : List ℕ) where
+  pub nothing : kept 0 slots labels ≡ writtenOut (entries []) slots labels
+  nothing = rw (le-ltb (length slots) 0 (omega arith), le-ltb (length labels) 0 (omega arith))
 
-      -- What the writing relies on.
-      pub ready : (w : Way) → w ≡ wayOf (q .control) → noneOn w ≡ false → tooShort m slots labels ≡ false
-          → Lays w m (q .lefts) (q .rights) (q .labels) slots labels
-      unfolding wayOf waiting
-      ready w e y h = record {
-        left-rows = rw e (rows .0);
-        right-rows = rw e (rows .1);
-        label-rows = rw e (rows .2);
-        room = room m slots labels h;
-        inside = keeps q w e m y (met-all .0) (met-all .1);
-      }
+  pub lost : (w : Way) (v : Walk) → Broken ≡ counted v → kept 34 slots labels ≡ writtenOut (turnedBack w v) slots labels
+  lost w (entries l) t = absurd (let z : _≡_ {A = ℕ} 0 1 = cc in omega arith)
+  lost w broken t = refl
 
-      pub writes : (w : Way) → w ≡ wayOf (q .control) → tooShort m slots labels ≡ false → (s l : List ℕ)
-          → s ≡ laid (w .rightward) m 0 (slotsOf (trail (linksOn w (q .lefts) (q .rights)) (q .labels) m (w .first))) slots
-          → l ≡ laid (w .rightward) m 0 (labelsOf (trail (linksOn w (q .lefts) (q .rights)) (q .labels) m (w .first))) labels
-          → _≡_ {A = Written} (record { reply = record { code = 0; count = m }; slots = s; labels = l }) (readOut q slots labels)
-      unfolding readOut waitingRefusal waiting
-      writes w e h s l sets-s sets-l =
-          let g = all-counted (contents q) m t in
-          let r = room m slots labels h in
-          let enough : tooShort (waiting q) slots labels ≡ false = ap (λ (k : ℕ). tooShort k slots labels) (sym (g .1)) ∙ h in
-          let slotted = sets-s ∙ lays q w e (λ e. e .slot) m slots (g .0) (g .1) (r .0) in
-          let labelled = sets-l ∙ lays q w e (λ e. e .label) m labels (g .0) (g .1) (r .1) in
-          rw (passed .0, passed .1, g .0, enough)
-          (λ i. record { reply = record { code = 0; count = g .1 i }; slots = slotted i; labels = labelled i })
+  pub short : (v : Walk) (m : ℕ) → Labels m ≡ counted v → tooShort m slots labels ≡ true → kept 12 slots labels ≡ writtenOut v slots labels
+  short (entries l) m t h = rw (ap (λ (k : ℕ). tooShort k slots labels) (sym (all-counted (entries l) m t .1)) ∙ h)
+  short broken m t h = absurd (not-both refl (all-counted broken m t .0))
+
+  writes : (v : Walk) (m : ℕ) → Labels m ≡ counted v → tooShort m slots labels ≡ false → (s l : List ℕ)
+      → s ≡ onto (slotsOf (met v)) slots → l ≡ onto (labelsOf (met v)) labels
+      → _≡_ {A = Written} (record { reply = record { code = 0; count = m }; slots = s; labels = l }) (writtenOut v slots labels)
+  writes (entries l) m t h s c es ec =
+      let k = all-counted (entries l) m t .1 in
+      rw (ap (λ (k : ℕ). tooShort k slots labels) (sym k) ∙ h) (λ i. record { reply = record { code = 0; count = k i }; slots = es i; labels = ec i })
+  writes broken m t h s c es ec = absurd (not-both refl (all-counted broken m t .0))
+
+-- The writing, along the links of a way whose direction is known.
+module _ (w : Way) (lefts rights labels slots copies : List ℕ) (n : ℕ) where
+  abbrev walk : Walk
+  walk = turnedBack w (ahead w lefts rights labels)
+
+  module _ (t : Labels n ≡ counted walk) (h : tooShort n slots copies ≡ false) (right : Bool) (e : w .rightward ≡ right) where
+    abbrev links : List ℕ
+    links = cond right rights lefts
+
+    chosen : linksOn w lefts rights ≡ links
+    chosen = ap (λ (b : Bool). cond b rights lefts) e
+
+    -- What it relies on.
+    pub may-lay : Walks w lefts rights labels → w .slots < length links → Lays w n links labels slots copies
+    may-lay k r =
+        let all = all-counted walk n t in
+        record {
+          link-rows = r;
+          label-rows = k .label-rows;
+          room = room n slots copies h;
+          inside = subst (λ (l : List ℕ). Inside (w .slots) (trail l labels n (w .first))) chosen (keeps w lefts rights labels n (all .0) (all .1));
+        }
+
+    pub lays-all : (s l : List ℕ)
+        → s ≡ laid (w .rightward) n 0 (slotsOf (trail links labels n (w .first))) slots
+        → l ≡ laid (w .rightward) n 0 (labelsOf (trail links labels n (w .first))) copies
+        → _≡_ {A = Written} (record { reply = record { code = 0; count = n }; slots = s; labels = l }) (writtenOut walk slots copies)
+    lays-all s l es el =
+        let all = all-counted walk n t in
+        let r = room n slots copies h in
+        let back = sym chosen in
+        writes slots copies walk n t h s l
+        (es ∙ ap (λ (k : List ℕ). laid (w .rightward) n 0 (slotsOf (trail k labels n (w .first))) slots) back
+        ∙ lays w lefts rights labels n (λ e. e .slot) slots (all .0) (all .1) (r .0))
+        (el ∙ ap (λ (k : List ℕ). laid (w .rightward) n 0 (labelsOf (trail k labels n (w .first))) copies) back
+        ∙ lays w lefts rights labels n (λ e. e .label) copies (all .0) (all .1) (r .1))

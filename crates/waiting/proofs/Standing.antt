@@ -1,18 +1,9 @@
 -- Where a call that walks may rely on the queue, and so after any accepted opening and any list: never 34, and what is written is the sequential
 -- deque's queue.
-use mathlib.Core.Path.{_≡_, refl}
-use mathlib.Core.Bool.{Bool, true, false, cond}
-use mathlib.Core.List.{List}
-use Prim.Native.Nat.{ℕ}
-use lib.Dec.{eqb}
-use lib.ListN.{length}
-use Rattle.model.specs.Tables.{isPooled}
-use Rattle.model.specs.Sound.{rowTests, rowsFit}
-use Rattle.model.specs.Refusals.{recordsFit}
-use Rattle.model.specs.Report.{waiting}
-use Rattle.model.proofs.tests.Truth.{and-true}
-use Rattle.model.proofs.tests.Rules.{tests}
-use Rattle.model.proofs.Standing.{standing}
+use mathlib.Core.{Path.{_≡_, refl}, Bool.{Bool, true, false, cond}}
+use lib.{Dec.eqb, ListN.length}
+use Rattle.model.specs.{Tables.isPooled, Sound.{rowTests, rowsFit}, Refusals.recordsFit, Report.waiting}
+use Rattle.model.proofs.{tests.{Truth.and-true, Rules.tests}, Standing.standing}
 use Rattle.waiting.specs.Waiting.{ReadsOut, StandingReadsOut, kept, readOut, tooShort, waitingRefusal, written}
 
 pub standing-reads-out : StandingReadsOut

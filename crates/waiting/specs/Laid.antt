@@ -1,13 +1,10 @@
 -- The tables as a loop writes them, slot by slot along the links.
-use mathlib.Core.Bool.{Bool, cond}
-use mathlib.Core.List.{List, [], _∷_}
+use mathlib.Core.{Path._≡_, Bool.{Bool, true, cond}, List.{List, [], _∷_}}
 use Prim.Native.Nat.{ℕ, zero, suc, _+_, _-_, _<_, _≤_}
 use lib.ListN.{getD, length, set}
 use Rattle.word.specs.Link.{linkOf}
-use Rattle.model.specs.declared.Entry.{Entry}
-use Rattle.model.specs.Lists.{All}
+use Rattle.model.specs.{declared.Entry.Entry, Lists.All, Sound.from1}
 use Rattle.walk.specs.declared.Way.{Way}
-use Rattle.walk.specs.Ways.{linksOn}
 
 -- The entries of n slots from slot x along the links.
 unfoldable pub trail : List ℕ → List ℕ → ℕ → ℕ → List Entry
@@ -28,9 +25,15 @@ abbrev pub Inside : ℕ → List Entry → Type 0
 Inside slots l = All (λ (e : Entry). e .slot ≤ slots) l
 
 -- What the loop relies on: rows 0 to slots, room for n, and n slots of which none is above slots.
-pub record Lays (w : Way) (n : ℕ) (lefts rights labels slots copies : List ℕ) : Type 0 where
+pub record Lays (w : Way) (n : ℕ) (links labels slots copies : List ℕ) : Type 0 where
+  pub link-rows : w .slots < length links
+  pub label-rows : w .slots < length labels
+  pub room : (n ≤ length slots) × (n ≤ length copies)
+  pub inside : Inside (w .slots) (trail links labels n (w .first))
+
+-- What the walk relies on: a first slot, and rows 0 to slots.
+pub record Walks (w : Way) (lefts rights labels : List ℕ) : Type 0 where
+  pub on : from1 (w .slots) (w .first) ≡ true
   pub left-rows : w .slots < length lefts
   pub right-rows : w .slots < length rights
   pub label-rows : w .slots < length labels
-  pub room : (n ≤ length slots) × (n ≤ length copies)
-  pub inside : Inside (w .slots) (trail (linksOn w lefts rights) labels n (w .first))

@@ -1,17 +1,9 @@
 -- The labels waiting and their slots, from left to right, in two lent tables. (Document 01: Labels waiting, in order; document 02, #102.)
-use mathlib.Core.Path.{_≡_}
-use mathlib.Core.Bool.{Bool, false, _||_, cond}
-use mathlib.Core.List.{List, [], _∷_, _++_, map}
+use mathlib.Core.{Path._≡_, Bool.{Bool, false, _||_, cond}, List.{List, [], _∷_, _++_, map}}
 use Prim.Native.Nat.{ℕ}
-use lib.Dec.{ltb, eqb}
-use lib.ListN.{length, drop}
-use Rattle.model.specs.declared.Entry.{Entry}
-use Rattle.model.specs.Tables.{Tables, Queue}
-use Rattle.model.specs.Sound.{rowsFit}
-use Rattle.model.specs.Walk.{contents, isBroken, met}
-use Rattle.model.specs.Refusals.{Rule, rule, first, tableRules}
-use Rattle.model.specs.Report.{waiting}
-use Rattle.model.specs.Standing.{Standing}
+use lib.{Dec.{ltb, eqb}, ListN.{length, drop}}
+use Rattle.model.specs.{declared.Entry.Entry, Tables.{Tables, Queue}, Sound.rowsFit, Report.waiting, Standing.Standing}
+use Rattle.model.specs.{Walk.{contents, isBroken, met, Walk, entries, broken}, Refusals.{Rule, rule, first, tableRules}}
 use Rattle.model.specs.History.{AfterOpening, final, ledger, run}
 use Rattle.waiting.specs.declared.WaitingReply.{WaitingReply}
 
@@ -49,6 +41,11 @@ written l slots labels = record {
 -- One of the two tables is too short for so many.
 abbrev pub tooShort : ℕ → List ℕ → List ℕ → Bool
 tooShort n slots labels = ltb (length slots) n || ltb (length labels) n
+
+-- What comes of a walk: 34, 12, or its entries written.
+abbrev pub writtenOut : Walk → List ℕ → List ℕ → Written
+writtenOut (entries l) slots labels = cond (tooShort (length l) slots labels) (kept 12 slots labels) (written l slots labels)
+writtenOut broken slots labels = kept 34 slots labels
 
 -- As the report: 34 for control and Anchor, 12, 34 for the walk; then 12 for the two tables.
 -- No records and no next table are lent, so 12 looks at neither.

@@ -1,22 +1,17 @@
 //! The labels waiting and their slots, written from left to right into lent tables.
 use model::Control;
 use sound::Lengths;
+use walk::Beginning;
 use walk::Tally;
 use walk::Way;
-use word::Link;
-ghost use mathlib.Core.Path.{_≡_};
-ghost use mathlib.Core.Bool.{false};
-ghost use mathlib.Core.List.{List};
+ghost use mathlib.Core.{Path._≡_, Bool.false, List.List};
 ghost use Prim.Native.Nat.{ℕ, _<_};
-ghost use lib.ListN.{length, getD};
-ghost use Rattle.word.specs.Link.{linkOf};
-ghost use Rattle.model.specs.Tables.{tablesOf};
-ghost use Rattle.model.specs.Refusals.{first, tableRules};
+ghost use Rattle.model.specs.{Tables.tablesOf, Refusals.{first, tableRules}};
 ghost use Rattle.sound.specs.Lengths.{lengthsFit};
 ghost use Rattle.rows.specs.Rows.{controlOf};
-ghost use Rattle.walk.specs.Ways.{linksOn};
-ghost use Rattle.waiting.specs.Waiting.{readOut, refused, slotsOf, labelsOf};
-ghost use Rattle.waiting.specs.Laid.{Lays, trail, place, laid};
+ghost use Rattle.walk.specs.Ways.{ahead, turnedBack};
+ghost use Rattle.waiting.specs.Waiting.{readOut, refused, slotsOf, labelsOf, writtenOut};
+ghost use Rattle.waiting.specs.Laid.{Lays, Walks, trail, place, laid};
 
 /// The answer as C sees it.
 #[repr(C)]
@@ -38,38 +33,16 @@ fn place(up: bool, n: u64, i: u64) -> usize
     (n - 1 - i) as usize
 }
 
-/// The slot that the link word of slot x names.
-fn follow(w: Way, lefts: &[u64], rights: &[u64], x: u64) -> u64
-    requires { ⌜ (x < length (now lefts)) × (x < length (now rights)) ⌝ }
-    ensures { λ r. ⌜ r ≡ linkOf (getD (linksOn w (now (lefts .entry)) (now (rights .entry))) x 0) .slot ⌝ }
-{
-    let k = x as usize;
-    if w.rightward {
-        let right = Link::unpack(rights[k]);
-        return right.slot;
-    }
-    let left = Link::unpack(lefts[k]);
-    left.slot
-}
-
 /// n slots from the first one along the way, and their labels, so that they stand from left to right. The walk is
 /// known to keep to the slots, so that no row is asked for.
-fn lay(
-    w: Way,
-    n: u64,
-    lefts: &[u64],
-    rights: &[u64],
-    labels: &[u32],
-    slots: &mut [u64],
-    copies: &mut [u32],
-)
-    requires { ⌜ Lays w n (now lefts) (now rights) (now labels) (now slots) (now copies) ⌝ }
+fn lay(w: Way, n: u64, links: &[u64], labels: &[u32], slots: &mut [u64], copies: &mut [u32])
+    requires { ⌜ Lays w n (now links) (now labels) (now slots) (now copies) ⌝ }
     ensures { λ _.
-        ⌜ now (slots .exit) ≡ laid (w .rightward) n 0
-        (slotsOf (trail (linksOn w (now (lefts .entry)) (now (rights .entry))) (now (labels .entry)) n (w .first))) (now (slots .entry)) ⌝ }
+        ⌜ now (slots .exit)
+        ≡ laid (w .rightward) n 0 (slotsOf (trail (now (links .entry)) (now (labels .entry)) n (w .first))) (now (slots .entry)) ⌝ }
     ensures { λ _.
-        ⌜ now (copies .exit) ≡ laid (w .rightward) n 0
-        (labelsOf (trail (linksOn w (now (lefts .entry)) (now (rights .entry))) (now (labels .entry)) n (w .first))) (now (copies .entry)) ⌝ }
+        ⌜ now (copies .exit)
+        ≡ laid (w .rightward) n 0 (labelsOf (trail (now (links .entry)) (now (labels .entry)) n (w .first))) (now (copies .entry)) ⌝ }
 {
     let mut i: u64 = 0;
     let mut x = w.first;
@@ -79,7 +52,7 @@ fn lay(
         let label = labels[at];
         slots[k] = x;
         copies[k] = label;
-        x = follow(w, lefts, rights, x);
+        x = walk::follow(links, x);
         i += 1;
     }
 }
@@ -106,7 +79,36 @@ fn refused(number: u32) -> WaitingReply
     }
 }
 
-/// Counted and checked in one walk, then written in a second: a refusal writes nothing.
+/// Counted and checked in one walk, then written in a second.
+fn write_out(
+    w: Way,
+    slots: &mut [u64],
+    copies: &mut [u32],
+    lefts: &[u64],
+    rights: &[u64],
+    labels: &[u32],
+) -> WaitingReply
+    requires { ⌜ Walks w (now lefts) (now rights) (now labels) ⌝ }
+    ensures { λ r.
+        ⌜ record { reply = r; slots = now (slots .exit); labels = now (copies .exit) } ≡ writtenOut
+        (turnedBack w (ahead w (now (lefts .entry)) (now (rights .entry)) (now (labels .entry)))) (now (slots .entry)) (now (copies .entry)) ⌝ }
+{
+    let walked = walk::count(w, lefts, rights);
+    let Tally::Labels(n) = walked else {
+        return refused(34);
+    };
+    if ((slots.len() as u64) < n) | ((copies.len() as u64) < n) {
+        return refused(12);
+    }
+    if w.rightward {
+        lay(w, n, rights, labels, slots, copies);
+    } else {
+        lay(w, n, lefts, labels, slots, copies);
+    }
+    WaitingReply { code: 0, count: n }
+}
+
+/// A refusal writes nothing.
 fn read_out(
     c: Control,
     slots: &mut [u64],
@@ -133,19 +135,12 @@ fn read_out(
     if why != 0 {
         return refused(why);
     }
-    let w = walk::begin(c);
-    if walk::none_on(w) {
-        return WaitingReply { code: 0, count: 0 };
+    let start = walk::begin(c);
+    match start {
+        Beginning::Empty => WaitingReply { code: 0, count: 0 },
+        Beginning::Unsound => refused(34),
+        Beginning::At(w) => write_out(w, slots, copies, lefts, rights, labels),
     }
-    let walked = walk::waiting(c, lefts, rights);
-    let Tally::Labels(n) = walked else {
-        return refused(34);
-    };
-    if ((slots.len() as u64) < n) | ((copies.len() as u64) < n) {
-        return refused(12);
-    }
-    lay(w, n, lefts, rights, labels, slots, copies);
-    WaitingReply { code: 0, count: n }
 }
 
 /// The same for C and Rust, with control lent as its row of words.

@@ -1,23 +1,15 @@
 -- The walk one slot on, and what comes of a loop that goes along it.
-use mathlib.Core.Path.{_≡_, refl, sym, ap, _∙_}
-use mathlib.Core.Bool.{Bool, true, false, _&&_, cond}
-use mathlib.Core.List.{List, [], _∷_}
-use mathlib.Core.Logic.{_≢_}
+use mathlib.Core.{Path.{_≡_, refl, sym, ap, _∙_}, Bool.{Bool, true, false, cond}, List.{List, [], _∷_}, Logic._≢_}
 use Prim.Native.Nat.{ℕ, zero, suc, _+_, _-_, _%_, _^_, _<_, _≤_}
 use native.Mathlib.Omega.{arith}
-use lib.Dec.{eqb, leb}
-use lib.ListN.{getD}
-use borrow.Author.Tests.{eqb-true, eq-eqb, ne-eqb, le-leb, leb-true}
-use Rattle.word.specs.Anchor.{anchorOf}
-use Rattle.word.specs.Link.{linkOf, spareOf}
-use Rattle.model.specs.declared.Entry.{Entry}
-use Rattle.model.specs.Tables.{Tables}
-use Rattle.model.specs.Sound.{from1, linkSound}
-use Rattle.model.specs.Walk.{Walk, along, andThen, broken, contents, entries, walkFrom}
-use Rattle.model.proofs.tests.Truth.{split, and-true}
-use Rattle.walk.specs.declared.Way.{Way}
-use Rattle.walk.specs.Ways.{wayOf, noneOn, linksOn, leadsTo, ahead, turnedBack}
-use Rattle.walk.specs.Over.{Made, made, lost, each, over}
+use lib.{Dec.{eqb, leb}, ListN.getD}
+use borrow.Author.Tests.{eqb-true, eqb-false, le-leb}
+use Rattle.word.specs.{Anchor.anchorOf, Link.{linkOf, spareOf}}
+use Rattle.model.specs.{declared.{Entry.Entry, Control.Control}, Sides.isEmpty, Tables.Tables, Sound.{from1, linkSound}}
+use Rattle.model.{specs.Walk.{Walk, along, andThen, broken, contents, entries}, proofs.tests.Truth.{split, and-true}}
+use Rattle.walk.specs.declared.{Beginning.{Beginning, the-variants.{At, Empty, Unsound}}, Way.Way}
+use Rattle.walk.specs.{declared.Led.{Led, the-variants.{Broken, Last, Slot}}, Over.{Made, made, lost, over}}
+use Rattle.walk.specs.Ways.{wayOf, beginningOf, linksOn, leadsTo, ledFrom, ahead, turnedBack, walkBy}
 
 -- The lower half of a sound link word is its slot.
 pub half-slot : (slots l : ℕ) → linkSound slots l ≡ true → l % 2 ^ 32 ≡ linkOf l .slot
@@ -45,7 +37,7 @@ module _ (w : Way) (lefts rights labels : List ℕ) where
       rw e (split (linkSound (w .slots) (getD (linksOn w lefts rights) x 0)) (λ f. rw f) (λ f. rw f (rw (nowhere n 0 refl))))
 
   -- It leads to a slot, or nowhere.
-  pub real : (x : ℕ) → leadsTo w lefts rights x ≢ 0 → from1 (w .slots) (leadsTo w lefts rights x) ≡ true
+  real : (x : ℕ) → leadsTo w lefts rights x ≢ 0 → from1 (w .slots) (leadsTo w lefts rights x) ≡ true
   unfolding leadsTo linkSound
   real x h = go (linkSound (w .slots) (getD (linksOn w lefts rights) x 0)) refl h
     where
@@ -59,35 +51,45 @@ module _ (w : Way) (lefts rights labels : List ℕ) where
       go true e g = rw (le-leb 1 slot (omega (arith, g)), and-true (eqb (spareOf word) 0) (leb slot (w .slots)) e .1)
       go false e g = absurd (g refl)
 
-both : (a b : Bool) → a && b ≡ b && a
-both true true = refl
-both true false = refl
-both false true = refl
-both false false = refl
+  pub led-to : (x y : ℕ) → Slot y ≡ ledFrom w lefts rights x → from1 (w .slots) y ≡ true
+  unfolding ledFrom
+  led-to x y e = go (eqb x (w .last)) (eqb (leadsTo w lefts rights x) 0) refl e
+    where
+      go : (a b : Bool) → eqb (leadsTo w lefts rights x) 0 ≡ b → Slot y ≡ cond a Last (cond b Broken (Slot (leadsTo w lefts rights x)))
+          → from1 (w .slots) y ≡ true
+      go true b f e = absurd (let z : _≡_ {A = ℕ} 0 1 = cc in omega arith)
+      go false true f e = absurd (let z : _≡_ {A = ℕ} 0 1 = cc in omega arith)
+      go false false f e = let z : y ≡ leadsTo w lefts rights x = cc in ap (from1 (w .slots)) z ∙ real x (eqb-false (leadsTo w lefts rights x) 0 f)
 
--- The labels waiting, by the way of their walk.
-module _ (q : Tables) (w : Way) (e : w ≡ wayOf (q .control)) where
-  abbrev onWay : Way → Walk
-  onWay w = cond (noneOn w) (entries []) (turnedBack w (ahead w (q .lefts) (q .rights) (q .labels)))
+-- What waits, by where its walk begins.
+module _ (q : Tables) where
+  abbrev begun : Walk
+  begun = let w = wayOf (q .control) in turnedBack w (ahead w (q .lefts) (q .rights) (q .labels))
 
-  by-way : contents q ≡ onWay w
+  by-way : contents q ≡ cond (isEmpty (anchorOf (q .control .anchor))) (entries []) begun
   unfolding contents wayOf
-  by-way =
-      let a = anchorOf (q .control .anchor) in
-      let back = walkFrom 1 (along (q .control .slots) (q .lefts) (q .labels) (a .left) (q .control .slots) (a .right)) in
-      split (eqb (a .status) 2) (λ e. rw e) (λ e. rw e (ap (λ (b : Bool). cond b (entries []) back) (both (eqb (a .left) 0) (eqb (a .right) 0))))
-      ∙ ap onWay (sym e)
+  by-way = split (eqb (anchorOf (q .control .anchor) .status) 2) (λ e. rw e) (λ e. rw e)
 
-  pub nothing : noneOn w ≡ true → contents q ≡ entries []
-  nothing z = by-way ∙ rw z
+  pub waits : (b : Beginning) → b ≡ beginningOf (q .control) → contents q ≡ walkBy b (q .lefts) (q .rights) (q .labels)
+  unfolding beginningOf
+  waits b e =
+      let w = wayOf (q .control) in
+      by-way
+      ∙ split (isEmpty (anchorOf (q .control .anchor))) (λ z. rw z)
+      (λ z. rw z (split (from1 (w .slots) (w .first)) (λ y. rw y)
+      (λ y. rw (y, nowhere w (q .lefts) (q .rights) (q .labels) (w .slots) (w .first) y))))
+      ∙ ap (λ (b : Beginning). walkBy b (q .lefts) (q .rights) (q .labels)) (sym e)
 
-  pub waits : from1 (w .slots) (w .first) ≡ true → contents q ≡ turnedBack w (ahead w (q .lefts) (q .rights) (q .labels))
-  waits z =
-      let one = leb-true 1 (w .first) (and-true (leb 1 (w .first)) (leb (w .first) (w .slots)) z .0) in
-      by-way ∙ rw (ne-eqb (w .first) 0 (λ y. omega arith))
-
-  pub off : from1 (w .slots) (w .first) ≡ false → noneOn w ≡ false → contents q ≡ broken
-  off z y = by-way ∙ rw (y, nowhere w (q .lefts) (q .rights) (q .labels) (w .slots) (w .first) z)
+-- It begins at a slot of its way.
+pub begins-at : (c : Control) (w : Way) → At w ≡ beginningOf c → (w ≡ wayOf c) × (from1 (w .slots) (w .first) ≡ true)
+unfolding beginningOf
+begins-at c w e = go (isEmpty (anchorOf (c .anchor))) (from1 (wayOf c .slots) (wayOf c .first)) refl e
+  where
+    go : (a b : Bool) → from1 (wayOf c .slots) (wayOf c .first) ≡ b → At w ≡ cond a Empty (cond b (At (wayOf c)) Unsound)
+        → (w ≡ wayOf c) × (from1 (w .slots) (w .first) ≡ true)
+    go true b f e = absurd (let z : _≡_ {A = ℕ} 0 1 = cc in omega arith)
+    go false false f e = absurd (let z : _≡_ {A = ℕ} 0 1 = cc in omega arith)
+    go false true f e = let z : w ≡ wayOf c = cc in (z, ap (λ (v : Way). from1 (v .slots) (v .first)) z ∙ f)
 
 -- What comes of s with n slots met and the walk at slot x.
 module _ {S : Type 0} (f : S → Entry → S) (w : Way) (lefts rights labels : List ℕ) where
@@ -105,18 +107,27 @@ module _ {S : Type 0} (f : S → Entry → S) (w : Way) (lefts rights labels : L
   unfolding along
   full n x s h = let e : w .slots - n ≡ 0 = omega arith in rw e
 
-  pub breaks : (n x : ℕ) (s : S) → x ≡ 0 → comes n s x ≡ lost
-  breaks n x s e = ap (over f s) (nowhere w lefts rights labels (w .slots - n) x (rw e))
-
   module _ (n x : ℕ) (s : S) (h : n < w .slots) (e : from1 (w .slots) x ≡ true) where
     left : w .slots - n ≡ suc (w .slots - (n + 1))
     left = omega arith
 
-    pub stops : x ≡ w .last → comes n s x ≡ made (f s (entry w lefts rights labels x))
-    stops g = rw left (ap (over f s) (turn w lefts rights labels (w .slots - (n + 1)) x e) ∙ rw (eq-eqb x (w .last) g))
+    abbrev met : S
+    met = f s (entry w lefts rights labels x)
 
-    pub goes : x ≢ w .last → comes n s x ≡ comes (n + 1) (f s (entry w lefts rights labels x)) (leadsTo w lefts rights x)
-    goes g =
+    -- What comes of a turn, by where the walk goes on.
+    abbrev pub turned : Led → Made S
+    turned Last = made met
+    turned Broken = lost
+    turned (Slot y) = comes (n + 1) met y
+
+    pub turns : (r : Led) → r ≡ ledFrom w lefts rights x → comes n s x ≡ turned r
+    unfolding ledFrom
+    turns r g =
+        let y = leadsTo w lefts rights x in
+        let m = w .slots - (n + 1) in
         rw left
-        (ap (over f s) (turn w lefts rights labels (w .slots - (n + 1)) x e) ∙ rw (ne-eqb x (w .last) g) (one-on s (entry w lefts rights labels x)
-        (rest w lefts rights labels (w .slots - (n + 1)) (leadsTo w lefts rights x))))
+        (ap (over f s) (turn w lefts rights labels m x e)
+        ∙ split (eqb x (w .last)) (λ z. rw z)
+        (λ z. rw z (one-on s (entry w lefts rights labels x) (rest w lefts rights labels m y)
+        ∙ split (eqb y 0) (λ k. rw k (ap (over f met) (nowhere w lefts rights labels m y (rw (eqb-true y 0 k))))) (λ k. rw k)))
+        ∙ ap turned (sym g))

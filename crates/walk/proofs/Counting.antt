@@ -1,16 +1,10 @@
 -- The count as what a walk makes of 0, and what it says of the walk.
-use mathlib.Core.Path.{_≡_, refl, ap, _∙_}
-use mathlib.Core.Bool.{Bool, true, false, cond}
-use mathlib.Core.List.{List, [], _∷_, reverse}
+use mathlib.Core.{Path.{_≡_, refl, ap, _∙_}, Bool.{Bool, true, false, cond}, List.{List, [], _∷_, reverse}}
 use Prim.Native.Nat.{ℕ, _+_}
 use native.Mathlib.Omega.{arith}
-use lib.Dec.{eqb}
-use lib.ListN.{length, length-reverse}
-use Rattle.model.specs.declared.Entry.{Entry}
-use Rattle.model.specs.Walk.{Walk, broken, entries, isBroken, met, walkFrom}
-use Rattle.walk.specs.declared.Tally.{Tally}
-use Rattle.walk.specs.declared.Tally.the-variants.{Broken, Labels}
-use Rattle.walk.specs.Counted.{counted}
+use lib.{Dec.eqb, ListN.{length, length-reverse}}
+use Rattle.model.specs.{declared.Entry.Entry, Walk.{Walk, broken, entries, isBroken, met, walkFrom}}
+use Rattle.walk.specs.{declared.Tally.{Tally, the-variants.{Broken, Labels}}, Counted.counted}
 use Rattle.walk.specs.Over.{Made, made, lost, each, over}
 
 abbrev pub oneMore : ℕ → Entry → ℕ

@@ -2,9 +2,7 @@
 use mathlib.Core.Path.{_≡_, ap, ap₂, _∙_}
 use Prim.Native.Nat.{ℕ, _+_, _-_, _*_, _%_, _^_, _<_}
 use native.Mathlib.Nat.{mod-lt, lt-of-lt-of-le}
-use lib.Dec.{T, leb, leb→le}
-use lib.Arith.{digits-lt}
-use lib.Pow.{pow-add, pow-pos, pow-mono, shl-exact}
+use lib.{Dec.{T, leb, leb→le}, Arith.digits-lt, Pow.{pow-add, pow-pos, pow-mono, shl-exact}}
 use lib.Bits.{bitAnd, bitOr, or-shifted, and-mask}
 
 -- the machine's word is the number n, of k bits

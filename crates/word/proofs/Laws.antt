@@ -2,8 +2,7 @@
 use mathlib.Core.Path.{_≡_, ap, _∙_}
 use Prim.Native.Nat.{ℕ, _^_, _<_}
 use native.Mathlib.Omega.{arith}
-use Rattle.word.specs.declared.{Anchor.Anchor, Link.Link}
-use Rattle.word.specs.Anchor.{anchorWord, anchorOf, cutAnchor, packAnchor}
+use Rattle.word.specs.{declared.{Anchor.Anchor, Link.Link}, Anchor.{anchorWord, anchorOf, cutAnchor, packAnchor}}
 use Rattle.word.specs.Link.{linkWord, linkOf, spareOf, cutLink, packLink}
 
 -- Each field within its width.

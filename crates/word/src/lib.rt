@@ -3,8 +3,7 @@
 //! Fields are cut to their widths by masks and joined by shifts; the contracts
 //! say the same as sums of powers of two, for every argument.
 ghost use mathlib.Core.Path.{_≡_};
-ghost use Rattle.word.specs.Anchor.{packAnchor, anchorOf, emptyAnchor};
-ghost use Rattle.word.specs.Link.{packLink, linkOf};
+ghost use Rattle.word.specs.{Anchor.{packAnchor, anchorOf, emptyAnchor}, Link.{packLink, linkOf}};
 
 /// The queue's two ends, with a status and a tag that every change raises.
 pub struct Anchor {

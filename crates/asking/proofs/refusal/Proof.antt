@@ -1,17 +1,12 @@
 -- Each return is the first rule that applies, by the tests passed before it.
-use mathlib.Core.Bool.{Bool, true, false, not, cond}
-use mathlib.Core.List.{List, [], _∷_, _++_}
-use mathlib.Core.Path.{_≡_, refl, sym, _∙_}
+use mathlib.Core.{Bool.{Bool, true, false, not, cond}, List.{List, [], _∷_, _++_}, Path.{_≡_, refl, sym, _∙_}}
 use Prim.Native.Nat.{ℕ}
 use lib.Dec.{leb, ltb}
-use borrow.Author.Tests.{eq-eqb, ne-eqb, not-true, not-false}
-use Rattle.model.specs.Tables.{Tables, isPooled, tablesOf}
-use Rattle.model.specs.Sound.{recordSound, rowsFit}
-use Rattle.model.specs.Places.{wordFound}
-use Rattle.model.specs.Refusals.{Lent, Rule, rule, first, fits, admission, admissionRules, recordRules, stepSound, stepRefusal}
-use Rattle.model.proofs.tests.Rules.{first-passed, first-refused}
+use Rattle.model.specs.{Tables.{Tables, isPooled, tablesOf}, Sound.rowsFit, Places.wordFound}
+use Rattle.model.specs.Refusals.{Lent, Rule, rule, first, fits, admission, admissionRules, recordRules, recordRefusal}
+use Rattle.model.{specs.Refusals.{stepSound, stepRefusal}, proofs.tests.Rules.{first-passed, first-refused}}
 use Rattle.sound.specs.Lengths.{lengthsFit}
-use Rattle.asking.specs.Asked.{touchRefusal}
+use Rattle.asking.specs.WhyRefused.{touchRefusal}
 use Rattle.asking.proofs.refusal.Statement.{statement}
 use Rattle.asking.proofs.refusal.Tie as tie
 
@@ -21,7 +16,7 @@ turned true = refl
 turned false = refl
 
 -- The arguments in the model's terms, and the rules: those of admission, and those of the record and what it touches.
-module _ (asked : tie.After-admit) where
+module _ (asked : tie.After-admit-step) where
   abbrev start : tie.Start
   start = let lists = asked .before .before .before in lists .before .before .before
 
@@ -39,63 +34,56 @@ module _ (asked : tie.After-admit) where
   abbrev touches : Bool
   touches = let r = start .args .r in stepSound (q .control) r (wordFound q r)
 
+  abbrev records : List Rule
+  records = recordRules (isPooled (q .control)) (q .control .slots) (start .args .r)
+
   abbrev after : List Rule
-  after = recordRules (isPooled (q .control)) (q .control .slots) (start .args .r) ++ (rule 34 (not touches) ∷ [])
+  after = records ++ (rule 34 (not touches) ∷ [])
 
   -- Where the first ones pass, the others decide.
-  passed : asked .admit .result ≡ 0 → first (before ++ after) ≡ first after
+  passed : asked .admit-step .result ≡ 0 → first (before ++ after) ≡ first after
   unfolding admission lengthsFit rowsFit
-  passed none = first-passed before after refl (sym (asked .admit .ensures) ∙ none)
+  passed none = first-passed before after refl (sym (asked .admit-step .ensures) ∙ none)
 
 returns : tie.Need-returns
 unfolding stepRefusal admission lengthsFit rowsFit
 returns c =
     let asked = c .before in
-    let why = asked .admit .ensures in
+    let why = asked .admit-step .ensures in
     why ∙ sym (first-refused (before asked) (after asked) (λ z. c .if1 .taken (why ∙ z)))
 
 returns-2 : tie.Need-returns-2
-unfolding stepRefusal
+unfolding stepRefusal recordRefusal
 returns-2 c =
-    let turn = c .before .before .before in
-    rw (passed (turn .before) (turn .if1 .left), sym (c .before .record-sound .ensures) ∙ not-true _ (c .if2 .taken))
-
-returns-3 : tie.Need-returns-3
-unfolding stepRefusal
-returns-3 c =
-    let sound = c .before .before in
-    let turn = sound .before .before .before in
-    rw (
-      passed (turn .before) (turn .if1 .left),
-      sym (sound .before .record-sound .ensures) ∙ not-false _ (sound .if2 .left),
-      eq-eqb _ 0 (c .if3 .taken),
-    )
+    let told = c .before in
+    let turn = told .before .before in
+    let asked = turn .before in
+    let why = told .record-refusal .ensures in
+    rw (passed asked (turn .if1 .left))
+    (why ∙ sym (first-refused (records asked) (rule 34 (not (touches asked)) ∷ []) (λ z. c .if2 .taken (why ∙ z))))
 
 -- A busy and sound record: what it touches decides.
 module _ (told : tie.After-touch-refusal) where
-  abbrev busy : tie.Else3
-  busy = told .before
-
   abbrev sound : tie.Else2
-  sound = busy .before .before
+  sound = told .before
 
   abbrev turn : tie.Else1
   turn = sound .before .before .before
 
-  fine : (let a = start (turn .before) .args in recordSound (isPooled (a .c)) (a .c .slots) (a .r) ≡ true)
-  fine = sym (sound .before .record-sound .ensures) ∙ not-false _ (sound .if2 .left)
-
   decided : first (after (turn .before)) ≡ touchRefusal (q (turn .before)) (start (turn .before) .args .r)
-  unfolding touchRefusal
-  decided = rw (fine, ne-eqb _ 0 (busy .if3 .left)) (turned (touches (turn .before)))
+  unfolding touchRefusal recordRefusal
+  decided =
+      let asked = turn .before in
+      first-passed (records asked) (rule 34 (not (touches asked)) ∷ []) refl (sym (sound .before .record-refusal .ensures) ∙ sound .if2 .left)
+      ∙ turned (touches asked)
 
-returns-4 : tie.Need-returns-4
+returns-3 : tie.Need-returns-3
 unfolding stepRefusal
-returns-4 c =
+returns-3 c =
     let asked = turn c .before in
     rw (passed asked (turn c .if1 .left)) (c .touch-refusal .ensures (q asked .marks) ∙ sym (decided c))
 
 pub refusal-spec : {M : Type 1} → statement M
 refusal-spec =
     tie.close
-    (tie.spec (λ _ _. tt) returns (λ _ _. tt) returns-2 returns-3 (λ _ _. tt) returns-4)
+    (tie.spec (λ _ _. tt) returns (λ _ _. tt) returns-2 (λ _ _. tt) returns-3)

@@ -1,13 +1,10 @@
 -- The slot that the place touches, arm by arm.
-use mathlib.Core.Path.{_≡_, refl, ap, _∙_}
-use mathlib.Core.Bool.{Bool, true, false, cond}
+use mathlib.Core.{Path.{_≡_, refl, ap, _∙_}, Bool.{Bool, true, false, cond}}
 use lib.Dec.{eqb}
 use borrow.Author.Tests.{ne-eqb}
 use Rattle.word.specs.Anchor.{anchorOf}
-use Rattle.model.specs.declared.Call.{Call}
-use Rattle.model.specs.Places.{sideOf, row}
-use Rattle.decide.specs.declared.touched.LinkWord.{LinkWord}
-use Rattle.decide.specs.Decided.{ownEnd, top, link3, link5, link7}
+use Rattle.model.specs.{declared.Call.Call, Places.{sideOf, row}}
+use Rattle.decide.specs.{declared.touched.LinkWord.LinkWord, Decided.{ownEnd, top, link3, link5, link7}}
 use Rattle.asking.proofs.row_of.Statement.{statement}
 use Rattle.asking.proofs.row_of.Tie as tie
 

@@ -1,13 +1,11 @@
 -- What each place is refused by.
-use mathlib.Core.Path.{_≡_, ap, _∙_}
+use mathlib.Core.Path.{ap, _∙_}
 use lib.Dec.{eqb}
 use borrow.Author.Tests.{ne-eqb}
-use Rattle.model.specs.Places.{move, at17}
-use Rattle.model.specs.Refusals.{stepSound}
-use Rattle.model.proofs.tests.Truth.{split}
-use Rattle.asking.specs.Asked.{whyUnchanged, touchRefusal}
-use Rattle.asking.proofs.Told.{said, at, change2, change4, change10, none1, none6, none8, none16, told3, told9, told11, told14}
-use Rattle.asking.proofs.touch_refusal.Statement.{statement}
+use Rattle.model.{specs.{Places.{move, at17}, Refusals.stepSound}, proofs.tests.Truth.split}
+use Rattle.asking.specs.WhyRefused.{whyUnchanged, touchRefusal}
+use Rattle.asking.proofs.Told.{said, at, change2, change4, change10, none1, none6, none8, none16, told3, told9}
+use Rattle.asking.proofs.{Told.{told11, told14}, touch_refusal.Statement.statement}
 use Rattle.asking.proofs.touch_refusal.Tie as tie
 
 returns : tie.Need-returns

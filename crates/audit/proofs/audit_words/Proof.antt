@@ -1,17 +1,12 @@
 -- 40, an order that is no rearrangement, or the replay.
-use mathlib.Core.Bool.{true}
-use mathlib.Core.Path.{_≡_, sym, _∙_}
-use mathlib.Core.List.{List}
+use mathlib.Core.{Bool.true, Path.{_≡_, sym, _∙_}, List.List}
 use Prim.Native.Nat.{ℕ, _/_}
 use native.Mathlib.Omega.{arith}
-use borrow.Author.Needs.{needs}
-use borrow.Author.Tests.{not-false, not-true}
+use borrow.Author.{Needs.needs, Tests.{not-false, not-true}}
 use lib.ListN.{length}
-use Rattle.audit_model.specs.Audit.{accepted, rearranges}
-use Rattle.audit_model.specs.LentHistory.{callsIn}
+use Rattle.audit_model.specs.{Audit.{accepted, rearranges}, LentHistory.callsIn}
 use Rattle.audit.proofs.Verdicts.{at-most-64, out-of-order, rearranged, refused, replayed-so}
-use Rattle.audit.proofs.WordsRead.{count-is}
-use Rattle.audit.proofs.audit_words.Statement.{statement}
+use Rattle.audit.proofs.{WordsRead.count-is, audit_words.Statement.statement}
 use Rattle.audit.proofs.audit_words.Tie as tie
 
 returns : tie.Need-returns
@@ -44,15 +39,15 @@ returns-2 c =
 fits : (c : tie.Else2) → rearranges (length (words (c .before .before)) / 7) (order (c .before .before)) ≡ true
 fits c = sym (c .before .is-rearranged .ensures) ∙ not-false (c .before .is-rearranged .result) (c .if2 .left)
 
-first-early-requires : tie.Need-first-early-requires
-first-early-requires c κs = let some = c .before .before in rearranged (order some) (length (words some) / 7) (fits c) .1
+first-misplaced-requires : tie.Need-first-misplaced-requires
+first-misplaced-requires c κs = let some = c .before .before in rearranged (order some) (length (words some) / 7) (fits c) .1
 
 served-requires : tie.Need-served-requires
 served-requires c κs =
     let some = c .before .before .before in
     let ks = rearranged (order some) (length (words some) / 7) (fits (c .before)) in
     let few = at-most-64 (callsIn (words some)) (length (words some) / 7) (count-is (words some)) (good some) in
-    (few, omega arith, ks .1, c .first-early .ensures)
+    (few, omega arith, ks .1, c .first-misplaced .ensures)
 
 returns-3 : tie.Need-returns-3
 returns-3 c =
@@ -68,6 +63,6 @@ audit-words-spec =
     returns
     is-rearranged-requires
     returns-2
-    first-early-requires
+    first-misplaced-requires
     served-requires
     returns-3)

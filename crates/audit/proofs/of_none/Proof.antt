@@ -1,6 +1,5 @@
 -- The verdict on no call: the order has to be empty.
-use Rattle.audit.proofs.Verdicts.{none-ordered, some-ordered}
-use Rattle.audit.proofs.of_none.Statement.{statement}
+use Rattle.audit.proofs.{Verdicts.{none-ordered, some-ordered}, of_none.Statement.statement}
 use Rattle.audit.proofs.of_none.Tie as tie
 
 returns : tie.Need-returns

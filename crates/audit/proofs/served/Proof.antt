@@ -1,38 +1,29 @@
 -- What is left of the replay leads from here to where the whole replay leads; so far no position stands too early.
-use mathlib.Core.List.{List, [], _∷_, map}
-use mathlib.Core.Path.{_≡_, refl, sym, ap, _∙_}
+use mathlib.Core.{List.{List, [], _∷_, map}, Path.{_≡_, refl, sym, ap, _∙_}}
 use Prim.Native.Nat.{ℕ, _+_, _-_, _/_, _≤_}
 use native.Mathlib.Omega.{arith}
-use borrow.Author.Needs.{needs}
-use borrow.Author.Tests.{not-false, not-true}
-use lib.ListN.{length, getD, drop, drop-of-length-le, replicate}
-use lib.Seq.{slice-empty}
-use Rattle.audit_model.specs.declared.Finished.{Finished}
-use Rattle.audit_model.specs.declared.Verdict.the-variants.{Failed}
+use borrow.Author.{Needs.needs, Tests.{not-false, not-true}}
+use lib.{ListN.{length, getD, drop, drop-of-length-le, replicate}, Seq.slice-empty}
+use Rattle.audit_model.specs.{declared.{Finished.Finished, Verdict.the-variants.Failed}, LentHistory.callsIn}
 use Rattle.audit_model.specs.Audit.{inOrder, nobody, replay}
-use Rattle.audit_model.specs.LentHistory.{callsIn}
-use Rattle.audit.specs.FirstEarly.{firstEarly}
-use Rattle.audit.specs.LabelQueue.{Holds, held, labelAt}
-use Rattle.audit.proofs.Buffer.{zeros-hold}
-use Rattle.audit.proofs.Early.{early-within}
-use Rattle.audit.proofs.Turn.{fails, goes-on, next-early, stops}
-use Rattle.audit.proofs.WordsRead.{next-call, number-known}
-use Rattle.audit.proofs.served.Statement.{statement}
+use Rattle.audit.specs.{FirstMisplaced.firstMisplaced, LabelQueue.{Holds, held, labelAt}}
+use Rattle.audit.proofs.{Buffer.zeros-hold, Misplaced.misplaced-within, WordsRead.{next-call, number-known}}
+use Rattle.audit.proofs.{Turn.{fails, goes-on, next-misplaced, stops}, served.Statement.statement}
 use Rattle.audit.proofs.served.Tie as tie
 
 abbrev Inv-loop : tie.InvT-loop
-Inv-loop words order early buffer₀ low₀ high₀ i₀ buffer low high i =
-    (i ≤ early) × (early ≤ length order) × (low ≤ high) × (64 ≤ low + i) × (high ≤ 64 + i) × Holds (length words / 7) buffer
-    × (i + firstEarly (inOrder (callsIn words) (drop i order)) ≡ early)
+Inv-loop words order misplaced buffer₀ low₀ high₀ i₀ buffer low high i =
+    (i ≤ misplaced) × (misplaced ≤ length order) × (low ≤ high) × (64 ≤ low + i) × (high ≤ 64 + i) × Holds (length words / 7) buffer
+    × (i + firstMisplaced (inOrder (callsIn words) (drop i order)) ≡ misplaced)
     × (replay (i + 1) (inOrder (callsIn words) (drop i order)) (held words low high buffer) ≡ replay 1 (inOrder (callsIn words) order) [])
 
 abbrev μ-loop : tie.MeasureT-loop
-μ-loop words order early buffer₀ low₀ high₀ i₀ buffer low high i = early - i
+μ-loop words order misplaced buffer₀ low₀ high₀ i₀ buffer low high i = misplaced - i
 
 loop-holds : tie.Need-loop-holds Inv-loop μ-loop
 loop-holds c =
     let start = c .before .before in
-    let within = early-within (callsIn (start .args .words .now)) (start .args .order .now) in
+    let within = misplaced-within (callsIn (start .args .words .now)) (start .args .order .now) in
     let is = start .pre .3 in (
       search needs,
       omega arith,
@@ -85,8 +76,8 @@ module _ (done : tie.After-serve-label Inv-loop μ-loop) where
       let less = test .loop-test .taken in
       next-call (start .args .words .now) (start .args .order .now) (start .pre .2) (test .before .loop .i) (omega arith)
 
-  is : test .before .loop .i + firstEarly (call ∷ rest) ≡ start .args .early
-  is = sym (ap (λ (l : List Finished). test .before .loop .i + firstEarly l) next) ∙ test .before .loop .inv .6
+  is : test .before .loop .i + firstMisplaced (call ∷ rest) ≡ start .args .misplaced
+  is = sym (ap (λ (l : List Finished). test .before .loop .i + firstMisplaced l) next) ∙ test .before .loop .inv .6
 
   onward : replay (test .before .loop .i + 1) (call ∷ rest) queue ≡ replay 1 (inOrder (callsIn (start .args .words .now)) (start .args .order .now)) []
   onward = sym (ap (λ (l : List Finished). replay (test .before .loop .i + 1) l queue) next) ∙ test .before .loop .inv .7
@@ -95,7 +86,7 @@ returns : tie.Need-returns Inv-loop μ-loop
 returns c =
     let done = c .before .before in
     let s = done .serve-label in
-    fails (call done) (rest done) (test done .before .loop .i) (start done .args .early) (is done) (queue done) (test done .loop-test .taken)
+    fails (call done) (rest done) (test done .before .loop .i) (start done .args .misplaced) (is done) (queue done) (test done .loop-test .taken)
     (sym (s .ensures .same-is) ∙ not-true (s .result .same) (c .if1 .taken)) ∙ onward done
 
 loop-again : tie.Need-loop-again Inv-loop μ-loop
@@ -111,8 +102,8 @@ loop-again c =
       omega (arith, s .ensures .moved .left),
       omega (arith, s .ensures .moved .right),
       s .ensures .holds,
-      next-early (call done) (rest done) (at .i) (start done .args .early) (is done) less,
-      goes-on (call done) (rest done) (at .i) (start done .args .early) (is done) (queue done) less
+      next-misplaced (call done) (rest done) (at .i) (start done .args .misplaced) (is done) less,
+      goes-on (call done) (rest done) (at .i) (start done .args .misplaced) (is done) (queue done) less
           (sym (s .ensures .same-is) ∙ not-false (s .result .same) (c .if1 .left)) _ (s .ensures .queue-is) ∙ onward done,
     )
 
@@ -125,11 +116,11 @@ returns-2 c =
     let left = c .before .loop-test .left in
     let more = c .if2 .taken in
     let inv = at .inv in
-    let here : start .args .early ≡ at .i = omega arith in
+    let here : start .args .misplaced ≡ at .i = omega arith in
     let next = next-call ws ks (start .pre .2) (at .i) (omega arith) in
     let q = held ws (at .low) (at .high) (at .buffer) in
     ap (λ (m : ℕ). Failed (m + 1)) here
-    ∙ stops _ _ (at .i) (start .args .early) (sym (ap (λ (l : List Finished). at .i + firstEarly l) next) ∙ inv .6) q (λ z. omega arith)
+    ∙ stops _ _ (at .i) (start .args .misplaced) (sym (ap (λ (l : List Finished). at .i + firstMisplaced l) next) ∙ inv .6) q (λ z. omega arith)
     ∙ sym (ap (λ (l : List Finished). replay (at .i + 1) l q) next) ∙ inv .7
 
 returns-3 : tie.Need-returns-3 Inv-loop μ-loop

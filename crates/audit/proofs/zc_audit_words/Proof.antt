@@ -1,12 +1,8 @@
 -- The verdict, in numbers.
-use mathlib.Core.List.{List}
-use mathlib.Core.Path.{sym, ap, _∙_}
+use mathlib.Core.{List.List, Path.{sym, ap, _∙_}}
 use borrow.Author.Needs.{needs}
-use Rattle.audit_model.specs.declared.Finished.{Finished}
-use Rattle.audit_model.specs.Audit.{verdict}
-use Rattle.audit_model.specs.LentHistory.{verdictReply}
-use Rattle.audit.proofs.Verdicts.{no-calls}
-use Rattle.audit.proofs.zc_audit_words.Statement.{statement}
+use Rattle.audit_model.specs.{declared.Finished.Finished, Audit.verdict, LentHistory.verdictReply}
+use Rattle.audit.proofs.{Verdicts.no-calls, zc_audit_words.Statement.statement}
 use Rattle.audit.proofs.zc_audit_words.Tie as tie
 
 returns : tie.Need-returns

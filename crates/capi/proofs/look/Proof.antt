@@ -1,22 +1,15 @@
 -- The count of the busy records below i, and the tasks' counts below i listed.
-use mathlib.Core.Path.{_≡_, sym, ap, _∙_}
-use mathlib.Core.Bool.{not}
-use mathlib.Core.List.{List}
+use mathlib.Core.{Path.{_≡_, sym, ap, _∙_}, Bool.not, List.List}
 use Prim.Native.Nat.{ℕ, _+_, _-_, _≤_}
-use native.Mathlib.Numerals.{add-one}
-use native.Mathlib.Omega.{arith}
-use lib.Dec.{eqb}
-use lib.ListN.{set}
+use native.Mathlib.{Numerals.add-one, Omega.arith}
+use lib.{Dec.eqb, ListN.set}
 use mir.Val.{boolByte}
-use Rattle.model.specs.declared.Call.{Call}
-use Rattle.model.specs.declared.Record.{Record}
-use Rattle.rows.specs.Rows.{recordOf, recordsOf}
-use Rattle.rows.proofs.Rows.{record-read}
+use Rattle.model.specs.declared.{Call.Call, Record.Record}
+use Rattle.rows.{specs.Rows.{recordOf, recordsOf}, proofs.Rows.record-read}
 use Rattle.capi.specs.Replies.{busyIn, countsIn}
-use Rattle.capi.proofs.Count.{one-at-most, busy-none, busy-le, busy-more}
-use Rattle.capi.proofs.Listed.{counts-none, counts-more}
-use borrow.Author.Needs.{needs}
+use Rattle.capi.proofs.{Count.{one-at-most, busy-none, busy-le, busy-more}, Listed.{counts-none, counts-more}}
 use Rattle.capi.proofs.look.Statement.{statement}
+use borrow.Author.Needs.{needs}
 use Rattle.capi.proofs.look.Tie as tie
 
 abbrev Inv-loop : tie.InvT-loop

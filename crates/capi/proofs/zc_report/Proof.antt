@@ -1,12 +1,10 @@
 -- The records to look at, what they tell, and what is told of all.
 use mathlib.Core.Path.{_≡_, refl, sym, _∙_}
-use Rattle.capi.proofs.Border.{few, reported}
+use Rattle.capi.proofs.{Border.{few, reported}, zc_report.Statement.statement}
 use borrow.Author.Needs.{needs}
-use Rattle.model.specs.declared.Reported.{Reported}
-use Rattle.model.specs.Report.{report, retryCounts}
+use Rattle.model.specs.{declared.Reported.Reported, Report.{report, retryCounts}}
 use Rattle.rows.specs.Rows.{queueIn}
 use Rattle.capi.specs.Replies.{reportReplyOf}
-use Rattle.capi.proofs.zc_report.Statement.{statement}
 use Rattle.capi.proofs.zc_report.Tie as tie
 
 -- The control's words, and those that the call was given.

@@ -1,7 +1,6 @@
 -- Not admitted: the number alone. Admitted: the record is moved on in its row.
-use Rattle.capi_record.proofs.Alone.{refused, stepped}
+use Rattle.capi_record.proofs.{Alone.{refused, stepped}, zc_step_record.Statement.statement}
 use borrow.Author.Needs.{needs}
-use Rattle.capi_record.proofs.zc_step_record.Statement.{statement}
 use Rattle.capi_record.proofs.zc_step_record.Tie as tie
 
 returns : tie.Need-returns

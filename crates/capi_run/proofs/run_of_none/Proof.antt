@@ -2,8 +2,7 @@
 use mathlib.Core.Path.{_≡_, refl, _∙_}
 use Rattle.model.specs.Tables.{Queue}
 use Rattle.rows.specs.Rows.{queueIn}
-use Rattle.capi_run.proofs.NoSteps.{fault, turned-away, free, met}
-use Rattle.capi_run.proofs.run_of_none.Statement.{statement}
+use Rattle.capi_run.proofs.{NoSteps.{fault, turned-away, free, met}, run_of_none.Statement.statement}
 use Rattle.capi_run.proofs.run_of_none.Tie as tie
 
 -- The queue, and what a step of the task would be refused by.

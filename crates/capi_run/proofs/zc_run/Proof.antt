@@ -3,19 +3,17 @@ use mathlib.Core.Path.{_≡_, refl, sym, _∙_}
 use Prim.Native.Nat.{_-_, _≤_}
 use native.Mathlib.Omega.{arith}
 use lib.ListN.{length}
-use borrow.Author.Needs.{needs}
-use borrow.Author.Tests.{not-true, not-false}
+use borrow.Author.{Needs.needs, Tests.{not-true, not-false}}
 use Rattle.model.specs.Solo.{soloRun}
 use Rattle.rows.specs.Rows.{queueIn, uppersOf}
-use Rattle.capi_run.proofs.StepsLeft.{left, left-more, runs-on, answered, refused, stopped, cut}
-use Rattle.capi_run.proofs.NoSteps.{none-ran}
-use Rattle.capi_run.proofs.zc_run.Statement.{statement}
+use Rattle.capi_run.proofs.StepsToGo.{to-go, to-go-more, runs-on, answered, refused, stopped, cut}
+use Rattle.capi_run.proofs.{NoSteps.none-ran, zc_run.Statement.statement}
 use Rattle.capi_run.proofs.zc_run.Tie as tie
 
 abbrev Inv-loop : tie.InvT-loop
 Inv-loop control₀ records₀ task most lefts₀ rights₀ labels₀ marks₀ next₀ steps₀ control records lefts rights labels marks next steps =
     (steps ≤ most) × (uppersOf records ≡ uppersOf records₀)
-    × (left task most steps (queueIn control records lefts rights labels marks next)
+    × (to-go task most steps (queueIn control records lefts rights labels marks next)
     ≡ soloRun most (queueIn control₀ records₀ lefts₀ rights₀ labels₀ marks₀ next₀) task)
     × (length records ≡ length records₀) × (length lefts ≡ length lefts₀) × (length rights ≡ length rights₀)
     × (length labels ≡ length labels₀) × (length marks ≡ length marks₀) × (length next ≡ length next₀)
@@ -79,7 +77,7 @@ loop-again c =
     let runs = sym (told .runs .ensures) ∙ not-false _ (c .if2 .left) in (
       omega arith,
       step .ensures .1 ∙ rw (runs-on _ runs .1) (inv .1),
-      left-more _ _ _ _ _ less (step .ensures .0) runs ∙ inv .2,
+      to-go-more _ _ _ _ _ less (step .ensures .0) runs ∙ inv .2,
       step .kept .1 .0 ∙ inv .3,
       lists .0 ∙ inv .4,
       lists .1 .0 ∙ inv .5,

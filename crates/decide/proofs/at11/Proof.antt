@@ -1,15 +1,13 @@
 -- Each return is one of the cases.
-use mathlib.Core.Path.{_≡_, sym, _∙_}
-use mathlib.Core.Bool.{true}
-use borrow.Author.Tests.{eq-eqb, ne-eqb}
-use borrow.Author.Needs.{needs}
+use mathlib.Core.{Path.{_≡_, sym, _∙_}, Bool.true}
+use borrow.Author.{Tests.{eq-eqb, ne-eqb}, Needs.needs}
 use Rattle.model.specs.Sound.{from1}
 use Rattle.decide.specs.Decided.{ownEnd, found11}
 use Rattle.decide.proofs.at11.Statement.{statement}
 use Rattle.decide.proofs.at11.Tie as tie
 
 -- The end, as read, tested for a slot.
-module _ (tested : tie.After-from1) where
+module _ (tested : tie.After-is-slot) where
   abbrev start : tie.Start
   start = tested .before .before
 
@@ -17,7 +15,7 @@ module _ (tested : tie.After-from1) where
   near = tested .before .own-end .ensures
 
 is-slot : (slot : tie.Then1) → (let a = start (slot .before) .args in from1 (a .c .slots) (ownEnd (a .r)) ≡ true)
-is-slot slot = rw (near (slot .before)) at (sym (slot .before .from1 .ensures) ∙ slot .if1 .taken)
+is-slot slot = rw (near (slot .before)) at (sym (slot .before .is-slot .ensures) ∙ slot .if1 .taken)
 
 returns : tie.Need-returns
 unfolding found11
@@ -37,7 +35,7 @@ returns-3 : tie.Need-returns-3
 unfolding found11
 returns-3 c =
     let tested = c .before .before in
-    rw (c .refused .ensures, rw (near tested) at (sym (tested .from1 .ensures) ∙ c .before .if1 .left))
+    rw (c .refused .ensures, rw (near tested) at (sym (tested .is-slot .ensures) ∙ c .before .if1 .left))
 
 pub at11-spec : {M : Type 1} → statement M
 at11-spec =

@@ -1,6 +1,5 @@
 -- A slot, 0, or above the last.
-use borrow.Author.Tests.{le-leb, lt-leb}
-use borrow.Author.Needs.{needs}
+use borrow.Author.{Tests.{le-leb, lt-leb}, Needs.needs}
 use Rattle.decide.specs.Decided.{found13}
 use Rattle.decide.proofs.at13.Statement.{statement}
 use Rattle.decide.proofs.at13.Tie as tie

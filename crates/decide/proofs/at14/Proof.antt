@@ -1,6 +1,6 @@
 -- Each return is one of the cases.
-use borrow.Author.Tests.{eq-eqb, ne-eqb, lt-ltb, le-ltb}
-use borrow.Author.Needs.{needs}
+use mathlib.Core.Path.{sym, _∙_}
+use borrow.Author.{Tests.{eq-eqb, ne-eqb}, Needs.needs}
 use Rattle.decide.specs.Decided.{found14}
 use Rattle.decide.proofs.at14.Statement.{statement}
 use Rattle.decide.proofs.at14.Tie as tie
@@ -17,8 +17,7 @@ returns-2 c =
     let head = own .before in
     let room = head .before .before in
     let same = room .before .before in
-    let read = same .before .before .before in
-    let below = rw (read .unpack .ensures) at (lt-ltb _ _ (room .if2 .taken)) in
+    let below = sym (room .before .has-room .ensures) ∙ room .if2 .taken in
     rw (
       c .settles2 .ensures,
       c .before .next2 .ensures,
@@ -34,19 +33,18 @@ unfolding found14
 returns-3 c =
     let full = c .before in
     let same = full .before .before in
-    let read = same .before .before .before in
-    let highest = rw (read .unpack .ensures) at (le-ltb _ _ (full .if2 .left)) in
+    let highest = sym (full .before .has-room .ensures) ∙ full .if2 .left in
     rw (c .refused .ensures, eq-eqb _ _ (same .if1 .left), highest)
 
 pub at14-spec : {M : Type 1} → statement M
 at14-spec =
     tie.close
     (tie.spec
-    (λ _ _. tt)
     (λ c κs. search needs)
     (λ _ _. tt)
     (λ _ _. tt)
     returns
+    (λ _ _. tt)
     (λ _ _. tt)
     (λ _ _. tt)
     (λ _ _. tt)

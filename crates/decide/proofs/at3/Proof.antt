@@ -1,11 +1,8 @@
 -- A push whose row is sound or not, and a pop.
-use mathlib.Core.Path.{_≡_, ap, sym, _∙_}
-use mathlib.Core.Bool.{cond}
-use borrow.Author.Tests.{eq-eqb, ne-eqb}
-use borrow.Author.Needs.{needs}
+use mathlib.Core.{Path.{_≡_, ap, sym, _∙_}, Bool.cond}
+use borrow.Author.{Tests.{eq-eqb, ne-eqb}, Needs.needs}
 use Rattle.model.specs.Kinds.{isPush}
-use Rattle.decide.specs.declared.touched.LinkWord.{LinkWord}
-use Rattle.decide.specs.Decided.{ownEnd, found3}
+use Rattle.decide.specs.{declared.touched.LinkWord.LinkWord, Decided.{ownEnd, found3}}
 use Rattle.decide.proofs.at3.Statement.{statement}
 use Rattle.decide.proofs.at3.Tie as tie
 

@@ -1,8 +1,7 @@
 -- Turned away by its number alone, or moved on.
 use mathlib.Core.Path.{sym, _∙_}
 use borrow.Author.Needs.{needs}
-use Rattle.model.specs.{Sound.rowsFit, Refusals.alone, Calls.stepLent}
-use Rattle.model.specs.Tables.{Tables, tablesOf}
+use Rattle.model.specs.{Sound.rowsFit, Refusals.alone, Calls.stepLent, Tables.{Tables, tablesOf}}
 use Rattle.sound.specs.Lengths.{lengthsFit}
 use Rattle.engine.proofs.InParts.{turned-away, admitted}
 use Rattle.deque.proofs.step_alone.Statement.{statement}
@@ -32,7 +31,7 @@ returns-2 c =
     let told = left .before in
     let sized = told .before .before .before .before in
     let a = sized .before .before in
-    moved .move-on .ensures ∙ admitted (q a) alone (a .args .t) (sym (told .admit-alone .ensures) ∙ left .if1 .left)
+    moved .step-by-value .ensures ∙ admitted (q a) alone (a .args .t) (sym (told .admit-alone .ensures) ∙ left .if1 .left)
 
 pub step-alone-spec : {M : Type 1} → statement M
 step-alone-spec =

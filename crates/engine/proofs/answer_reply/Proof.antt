@@ -1,9 +1,7 @@
 -- An answer in numbers: each arm is given that the answer is its variant.
 use mathlib.Core.Path.{sym, ap}
 use borrow.Author.Needs.{needs}
-use Rattle.model.specs.declared.{Answer.Answer, Reply.Reply}
-use Rattle.model.specs.declared.Outcome.the-variants.{Moved}
-use Rattle.model.specs.Calls.{replyOf}
+use Rattle.model.specs.{declared.{Answer.Answer, Reply.Reply, Outcome.the-variants.Moved}, Calls.replyOf}
 use Rattle.engine.proofs.answer_reply.Statement.{statement}
 use Rattle.engine.proofs.answer_reply.Tie as tie
 

@@ -1,15 +1,10 @@
 -- A label that does not pass was not asked for, and nothing is noted.
-use mathlib.Core.Path.{_≡_, sym, _∙_}
-use mathlib.Core.Bool.{false, _||_}
+use mathlib.Core.Path.{sym, _∙_}
 use Prim.Native.Nat.{_%_}
 use lib.Dec.{leb}
-use borrow.Author.Needs.{needs}
-use borrow.Author.Tests.{leb-false}
-use Rattle.model.specs.Tables.{marked}
-use Rattle.model.proofs.tests.Truth.{or-false}
-use Rattle.find.proofs.Noted.{none-noted}
-use Rattle.find.proofs.Sieve.{not-asked}
-use Rattle.find.proofs.meet.Statement.{statement}
+use borrow.Author.{Needs.needs, Tests.leb-false}
+use Rattle.model.{specs.Tables.marked, proofs.tests.Truth.or-false}
+use Rattle.find.proofs.{Noted.none-noted, Sieve.not-wanted, meet.Statement.statement}
 use Rattle.find.proofs.meet.Tie as tie
 
 returns-2 : tie.Need-returns-2
@@ -18,7 +13,7 @@ returns-2 c =
     let a = s .args in
     let clear = or-false (leb (a .k) 4) (marked (a .sieve .now) (a .y % 1024)) (sym (c .before .passes .ensures) ∙ c .if1 .left) in
     let sifted = s .pre .0 .sifted (leb-false (a .k) 4 (clear .0)) in
-    sym (none-noted (a .early) (a .y) (a .k) (a .asked .now) (a .positions .now) (not-asked (a .asked .now) (a .sieve .now) (a .y) sifted (clear .1)))
+    sym (none-noted (a .foremost) (a .y) (a .k) (a .wanted .now) (a .positions .now) (not-wanted (a .wanted .now) (a .sieve .now) (a .y) sifted (clear .1)))
 
 pub meet-spec : {M : Type 1} → statement M
 meet-spec =

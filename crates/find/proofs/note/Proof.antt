@@ -1,22 +1,18 @@
 -- After i turns the first i labels asked for are done.
-use mathlib.Core.Path.{_≡_, refl, sym, ap, _∙_}
-use mathlib.Core.List.{List}
+use mathlib.Core.{Path.{_≡_, refl, sym, ap, _∙_}, List.List}
 use Prim.Native.Nat.{ℕ, _≤_, _-_}
-use native.Mathlib.Numerals.{add-one}
-use native.Mathlib.Omega.{arith}
-use lib.ListN.{length, getD, set, take}
-use lib.Seq.{take-length}
+use native.Mathlib.{Numerals.add-one, Omega.arith}
+use lib.{ListN.{length, getD, set, take}, Seq.take-length}
 use borrow.Author.Needs.{needs}
 use Rattle.find_model.specs.Noting.{note, pick}
-use Rattle.find.proofs.Noted.{note-more, note-length}
-use Rattle.find.proofs.note.Statement.{statement}
+use Rattle.find.proofs.{Noted.{note-more, note-length}, note.Statement.statement}
 use Rattle.find.proofs.note.Tie as tie
 
 abbrev Inv-loop : tie.InvT-loop
-Inv-loop early y k asked positions₀ i₀ positions i = (i ≤ length asked) × (positions ≡ note early y k (take i asked) positions₀)
+Inv-loop foremost y k wanted positions₀ i₀ positions i = (i ≤ length wanted) × (positions ≡ note foremost y k (take i wanted) positions₀)
 
 abbrev μ-loop : tie.MeasureT-loop
-μ-loop early y k asked positions₀ i₀ positions i = length asked - i
+μ-loop foremost y k wanted positions₀ i₀ positions i = length wanted - i
 
 loop-holds : tie.Need-loop-holds Inv-loop μ-loop
 loop-holds c = (omega arith, refl)
@@ -25,9 +21,9 @@ loop-holds c = (omega arith, refl)
 kept : (l : tie.At-loop Inv-loop μ-loop) → length (l .loop .positions) ≡ length (l .before .before .before .args .positions .now)
 kept l =
     let a = l .before .before .before .args in
-    ap length (l .loop .inv .1) ∙ note-length (a .early) (a .y) (a .k) (take (l .loop .i) (a .asked .now)) (a .positions .now)
+    ap length (l .loop .inv .1) ∙ note-length (a .foremost) (a .y) (a .k) (take (l .loop .i) (a .wanted .now)) (a .positions .now)
 
-room : (l : tie.At-loop Inv-loop μ-loop) → length (l .before .before .before .args .asked .now) ≤ length (l .loop .positions)
+room : (l : tie.At-loop Inv-loop μ-loop) → length (l .before .before .before .args .wanted .now) ≤ length (l .loop .positions)
 room l = omega (arith, kept l, l .before .before .before .pre)
 
 loop-again : tie.Need-loop-again Inv-loop μ-loop
@@ -36,23 +32,24 @@ loop-again c =
     let l = p .before .before .before .before in
     let a = l .before .before .before .args in
     let i = l .loop .i in
-    let asked = a .asked .now in
-    let put : List ℕ → List ℕ = λ ps. set ps i (pick (a .early) (getD asked i 0) (a .y) (a .k) (getD ps i 0)) in
-    let more = note-more (a .early) (a .y) (a .k) i asked (a .positions .now) (omega arith) (omega (arith, l .before .before .before .pre)) in (
+    let wanted = a .wanted .now in
+    let put : List ℕ → List ℕ = λ ps. set ps i (pick (a .foremost) (getD wanted i 0) (a .y) (a .k) (getD ps i 0)) in
+    let more = note-more (a .foremost) (a .y) (a .k) i wanted (a .positions .now) (omega arith) (omega (arith, l .before .before .before .pre)) in (
       omega arith,
       p .put .ensures
           ∙ ap put (l .loop .inv .1)
           ∙ sym more
-          ∙ ap (λ (m : ℕ). note (a .early) (a .y) (a .k) (take m asked) (a .positions .now)) (sym (add-one i)),
+          ∙ ap (λ (m : ℕ). note (a .foremost) (a .y) (a .k) (take m wanted) (a .positions .now)) (sym (add-one i)),
     )
 
 returns : tie.Need-returns Inv-loop μ-loop
 returns c =
     let l = c .before in
     let a = l .before .before .before .args in
-    let e : l .loop .i ≡ length (a .asked .now) = omega arith in
+    let e : l .loop .i ≡ length (a .wanted .now) = omega arith in
     l .loop .inv .1
-    ∙ ap (λ (done : List ℕ). note (a .early) (a .y) (a .k) done (a .positions .now)) (ap (λ (m : ℕ). take m (a .asked .now)) e ∙ take-length (a .asked .now))
+    ∙ ap (λ (done : List ℕ). note (a .foremost) (a .y) (a .k) done (a .positions .now))
+    (ap (λ (m : ℕ). take m (a .wanted .now)) e ∙ take-length (a .wanted .now))
 
 pub note-spec : {M : Type 1} → statement M
 note-spec =

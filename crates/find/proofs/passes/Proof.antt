@@ -1,5 +1,5 @@
 -- The tests are the definition's.
-use mathlib.Core.Path.{_≡_, sym, ap, _∙_}
+use mathlib.Core.Path.{ap, _∙_}
 use Prim.Native.Nat.{ℕ, _%_}
 use borrow.Author.Tests.{le-leb, lt-leb}
 use Rattle.model.specs.Tables.{marked}

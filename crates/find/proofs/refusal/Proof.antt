@@ -1,7 +1,5 @@
 -- Tests made one after the other.
-use mathlib.Core.Path.{_≡_, sym, _∙_}
-use mathlib.Core.Bool.{true}
-use borrow.Author.Needs.{needs}
+use mathlib.Core.{Path.{_≡_, sym, _∙_}, Bool.true}
 use borrow.Author.Tests.{lt-ltb, le-ltb, not-true, not-false}
 use Rattle.model.specs.Sound.{controlSound, rowsFit}
 use Rattle.sound.specs.Lengths.{lengthsFit}

@@ -1,20 +1,12 @@
 -- Broken, found from the right end and turned, or found from the left.
-use mathlib.Core.Path.{_≡_, refl, sym, ap, _∙_}
-use mathlib.Core.Bool.{true, false}
-use mathlib.Core.List.{List}
+use mathlib.Core.{Path.{_≡_, refl, sym, ap, _∙_}, List.List}
 use Prim.Native.Nat.{ℕ}
 use native.Mathlib.Omega.{arith}
-use lib.ListN.{length, length-replicate, replicate}
-use borrow.Author.Needs.{needs}
-use borrow.Author.Tests.{not-true, not-false}
+use lib.ListN.{length, length-replicate}
+use borrow.Author.{Needs.needs, Tests.{not-true, not-false}}
 use Rattle.model.specs.Walk.{Walk}
-use Rattle.walk.specs.declared.Tally.{Tally}
-use Rattle.walk.specs.declared.Tally.the-variants.{Labels}
-use Rattle.walk.specs.Ways.{ahead, turnedBack}
-use Rattle.walk.specs.Over.{over}
-use Rattle.walk.proofs.Along.{nowhere}
-use Rattle.find_model.specs.declared.FindReply.{FindReply}
-use Rattle.find.specs.Looked.{noteOn, noted, foundIn}
+use Rattle.walk.specs.{declared.Tally.{Tally, the-variants.Labels}, Ways.ahead, Over.over}
+use Rattle.find.specs.Looked.{noteOn, noted}
 use Rattle.find.proofs.Searching.{blank, within, nothing-found, blanked, left-found, right-found}
 use Rattle.find.proofs.search.Statement.{statement}
 use Rattle.find.proofs.search.Tie as tie
@@ -22,7 +14,7 @@ use Rattle.find.proofs.search.Tie as tie
 -- The walk that was made, and what came of it.
 module _ (k : tie.After-look) where
   abbrev start : tie.Start
-  start = let s = k .before .before .before .before in s .before .before .before .before .before .before
+  start = let s = k .before .before .before .before in s .before .before .before .before
 
   abbrev walk : Walk
   walk = let a = start .args in ahead (a .w) (a .lefts .now) (a .rights .now) (a .labels .now)
@@ -31,34 +23,24 @@ module _ (k : tie.After-look) where
   after = k .look .last .1 .1 .1 .1 .1 .1 .0
 
   came : (t : Tally) → k .look .result ≡ t
-      → noted t after ≡ over (noteOn (start .args .w .rightward) (start .args .asked .now)) (record { count = 0; positions = blank }) walk
+      → noted t after ≡ over (noteOn (start .args .w .rightward) (start .args .wanted .now)) (record { count = 0; positions = blank }) walk
   came t e =
       let a = start .args in
       ap (λ (r : Tally). noted r after) (sym e) ∙ k .look .ensures
-      ∙ ap (λ (ps : List ℕ). over (noteOn (a .w .rightward) (a .asked .now)) (record { count = 0; positions = ps }) walk) (start .pre .1)
+      ∙ ap (λ (ps : List ℕ). over (noteOn (a .w .rightward) (a .wanted .now)) (record { count = 0; positions = ps }) walk) (start .pre .1 .0)
 
   size : length (start .args .positions .now) ≡ 32
-  size = ap length (start .pre .1) ∙ length-replicate {A = ℕ} 32 0
+  size = ap length (start .pre .1 .0) ∙ length-replicate {A = ℕ} 32 0
 
--- A walk that begins at no slot is broken.
 returns : tie.Need-returns
 returns c =
-    let s = c .before .before .before .before .before .before .before in
-    let a = s .args in
-    let off = sym (c .before .from1 .ensures) ∙ not-true _ (c .if1 .taken) in
-    ap (λ (ps : List ℕ). record { code = 34; rows = 0; positions = ps }) (s .pre .1)
-    ∙ sym (ap (λ (v : Walk). foundIn (turnedBack (a .w) v) (a .asked .now))
-    (nowhere (a .w) (a .lefts .now) (a .rights .now) (a .labels .now) (a .w .slots) (a .w .first) off))
-
-returns-2 : tie.Need-returns-2
-returns-2 c =
     let z = c .before .before in
     let t = z .before .before in
     let s = t .before .before in
     let k = s .before .before .before in
     let a = start k .args in
     let long : length (after k) ≡ 32 = omega (arith, size k) in
-    let lost = nothing-found (noteOn (a .w .rightward) (a .asked .now)) (record { count = 0; positions = blank }) (a .w) (walk k) (a .asked .now)
+    let lost = nothing-found (noteOn (a .w .rightward) (a .wanted .now)) (record { count = 0; positions = blank }) (a .w) (walk k) (a .wanted .now)
     (came k _ (t .enum-told .given .1)) in
     ap (λ (ps : List ℕ). record { code = 34; rows = 0; positions = ps }) (z .zero-words .ensures ∙ blanked (after k) long) ∙ lost
 
@@ -71,7 +53,7 @@ module _ (t : tie.After-known-told) where
   rows = t .before .walked .given .0 .0
 
   all-noted : noted (Labels rows) (after looked)
-      ≡ over (noteOn (start looked .args .w .rightward) (start looked .args .asked .now)) (record { count = 0; positions = blank }) (walk looked)
+      ≡ over (noteOn (start looked .args .w .rightward) (start looked .args .wanted .now)) (record { count = 0; positions = blank }) (walk looked)
   all-noted = came looked _ (t .before .walked .given .1)
 
 turn-requires : tie.Need-turn-requires
@@ -80,50 +62,48 @@ turn-requires c κs =
     let k = looked t in
     let a = start k .args in
     let few = start k .pre .0 in
-    (omega (arith, size k), within (a .w .rightward) (a .asked .now) (rows t) (after k) (walk k) (all-noted t))
+    (omega (arith, size k), within (a .w .rightward) (a .wanted .now) (rows t) (after k) (walk k) (all-noted t))
 
-returns-3 : tie.Need-returns-3
-returns-3 c =
+returns-2 : tie.Need-returns-2
+returns-2 c =
     let v = c .before .before in
     let n = v .before .before in
     let t = n .before .before in
     let k = looked t in
     let a = start k .args in
     ap (λ (ps : List ℕ). record { code = 0; rows = rows t; positions = ps }) (v .turn .ensures)
-    ∙ right-found (a .w) (a .asked .now) (start k .pre .0) (rows t) (after k) (walk k) (not-true _ (n .if2 .taken)) (all-noted t)
+    ∙ right-found (a .w) (a .wanted .now) (start k .pre .0) (rows t) (after k) (walk k) (not-true _ (n .if1 .taken)) (all-noted t)
 
-returns-4 : tie.Need-returns-4
-returns-4 c =
+returns-3 : tie.Need-returns-3
+returns-3 c =
     let t = c .before .before in
     let k = looked t in
     let a = start k .args in
-    left-found (a .w) (a .asked .now) (start k .pre .0) (rows t) (after k) (walk k) (not-false _ (c .if2 .left)) (all-noted t)
+    left-found (a .w) (a .wanted .now) (start k .pre .0) (rows t) (after k) (walk k) (not-false _ (c .if1 .left)) (all-noted t)
 
 look-requires : tie.Need-look-requires
 look-requires c κs =
-    let e = c .before .before in
-    let s = e .before .before .before .before .before .before .before in
+    let s = c .before .before .before in
+    let start = s .before .before .before .before in
     record {
-      at = sym (e .before .from1 .ensures) ∙ not-false _ (e .if1 .left);
+      at = start .pre .1 .1;
       sieve-size = refl;
-      room = omega (arith, s .pre .0, ap length (s .pre .1) ∙ length-replicate {A = ℕ} 32 0);
+      room = omega (arith, start .pre .0, ap length (start .pre .1 .0) ∙ length-replicate {A = ℕ} 32 0);
     }
 
 pub search-spec : {M : Type 1} → statement M
 search-spec =
     tie.close
     (tie.spec
-    (λ _ _. tt)
-    returns
     (λ c. search needs)
     look-requires
     (λ c. search needs)
     (λ c. search needs)
     (λ _ _. tt)
     (λ c. search needs)
-    returns-2
+    returns
     turn-requires
     (λ c. search needs)
-    returns-3
+    returns-2
     (λ c. search needs)
-    returns-4)
+    returns-3)

@@ -5,16 +5,15 @@ use native.Mathlib.Omega.{arith}
 use lib.ListN.{length, getD}
 use borrow.Author.Needs.{needs}
 use Rattle.model.specs.Tables.{withMark}
-use Rattle.find.proofs.Sieve.{Below, one-more}
-use Rattle.find.proofs.sift.Statement.{statement}
+use Rattle.find.proofs.{Sieve.{Below, one-more}, sift.Statement.statement}
 use Rattle.find.proofs.sift.Tie as tie
 
 abbrev Inv-loop : tie.InvT-loop
-Inv-loop asked sieve₀ i₀ sieve i =
-    (i ≤ length asked) × Below asked sieve i
+Inv-loop wanted sieve₀ i₀ sieve i =
+    (i ≤ length wanted) × Below wanted sieve i
 
 abbrev μ-loop : tie.MeasureT-loop
-μ-loop asked sieve₀ i₀ sieve i = length asked - i
+μ-loop wanted sieve₀ i₀ sieve i = length wanted - i
 
 -- In the loop, after a mark was set.
 abbrev at : tie.After-slice-known2 Inv-loop μ-loop → tie.After-set-mark Inv-loop μ-loop
@@ -24,7 +23,7 @@ abbrev turn : tie.After-set-mark Inv-loop μ-loop → tie.At-loop Inv-loop μ-lo
 turn s = let r = s .before .before in r .before .before .before
 
 set-is : (s : tie.After-set-mark Inv-loop μ-loop)
-    → s .set-mark .last .0 ≡ withMark (turn s .loop .sieve) (getD (turn s .before .before .before .args .asked .now) (turn s .loop .i) 0 % 1024) 1
+    → s .set-mark .last .0 ≡ withMark (turn s .loop .sieve) (getD (turn s .before .before .before .args .wanted .now) (turn s .loop .i) 0 % 1024) 1
 set-is s =
     s .set-mark .ensures ∙ ap (λ (v : ℕ). withMark (turn s .loop .sieve) (v % 1024) 1) (s .before .wide .ensures)
 
@@ -32,7 +31,7 @@ loop-again : tie.Need-loop-again Inv-loop μ-loop
 loop-again c =
     let s = at c in
     let l = turn s in
-    (omega arith, one-more (l .before .before .before .args .asked .now) (l .loop .sieve) _ (l .loop .i) (l .loop .inv .1) (set-is s))
+    (omega arith, one-more (l .before .before .before .args .wanted .now) (l .loop .sieve) _ (l .loop .i) (l .loop .inv .1) (set-is s))
 
 returns : tie.Need-returns Inv-loop μ-loop
 returns c =

@@ -1,15 +1,12 @@
 -- After i turns the first i positions are counted from the other end.
-use mathlib.Core.Path.{_≡_, refl, sym, ap, subst, _∙_}
-use mathlib.Core.List.{List}
+use mathlib.Core.{Path.{_≡_, refl, sym, ap, subst, _∙_}, List.List}
 use Prim.Native.Nat.{ℕ, _≤_, _-_}
-use native.Mathlib.Numerals.{add-one}
-use native.Mathlib.Omega.{arith}
+use native.Mathlib.{Numerals.add-one, Omega.arith}
 use lib.ListN.{length, getD, set}
 use borrow.Author.Needs.{needs}
 use Rattle.find_model.specs.Noting.{turned}
 use Rattle.find.specs.Looked.{turning}
-use Rattle.find.proofs.Turning.{turn-more, turn-length, turn-at}
-use Rattle.find.proofs.turn.Statement.{statement}
+use Rattle.find.proofs.{Turning.{turn-more, turn-length, turn-at}, turn.Statement.statement}
 use Rattle.find.proofs.turn.Tie as tie
 
 abbrev Inv-loop : tie.InvT-loop

@@ -1,8 +1,6 @@
 -- None, or a position within the rows.
-use mathlib.Core.Path.{sym}
 use native.Mathlib.Omega.{arith}
-use borrow.Author.Needs.{needs}
-use borrow.Author.Tests.{le-leb}
+use borrow.Author.{Needs.needs, Tests.le-leb}
 use Rattle.find.proofs.turned.Statement.{statement}
 use Rattle.find.proofs.turned.Tie as tie
 

@@ -3,8 +3,7 @@ use mathlib.Core.Path.{ap, _∙_}
 use Prim.Native.Nat.{ℕ, _+_, _*_, _-_}
 use native.Mathlib.Omega.{arith}
 use borrow.Author.Needs.{needs}
-use Rattle.word.specs.declared.Anchor.{Anchor}
-use Rattle.word.specs.Anchor.{packAnchor}
+use Rattle.word.specs.{declared.Anchor.Anchor, Anchor.packAnchor}
 use Rattle.model.specs.Tables.{withWords}
 use Rattle.join.specs.Anchored.{anchored}
 use Rattle.join.proofs.anchored.Statement.{statement}

@@ -1,18 +1,14 @@
 -- Refused, nothing to lay, or laid: on the queues that the call was given.
-use mathlib.Core.Path.{_≡_, sym, _∙_}
-use mathlib.Core.List.{List, []}
+use mathlib.Core.{Path.{_≡_, sym, _∙_}, List.{List, []}}
 use Prim.Native.Nat.{ℕ, _+_, _≤_}
 use native.Mathlib.Omega.{arith}
 use lib.Dec.{eqb}
-use borrow.Author.Needs.{needs}
-use borrow.Author.Tests.{eqb-true}
-use Rattle.model.specs.Tables.{Queue, queueOf}
-use Rattle.model.proofs.tests.Truth.{and-true}
+use borrow.Author.{Needs.needs, Tests.eqb-true}
+use Rattle.model.{specs.Tables.{Queue, queueOf}, proofs.tests.Truth.and-true}
 use Rattle.rows.specs.Rows.{recordsOf}
-use Rattle.join_model.specs.Join.{anchorIn}
-use Rattle.join_model.specs.Closed.{closedRefusal}
-use Rattle.join.specs.Admits.{Admits}
-use Rattle.join.proofs.Joining.{refuses, nothing, few, low-tag, lays, one-left}
+use Rattle.join_model.specs.{Join.anchorIn, Closed.closedRefusal}
+use Rattle.join.specs.{Admits.Admits, Scratch.InRows}
+use Rattle.join.proofs.Joining.{refuses, nothing, few, both-in-rows, low-tag, lays, one-left}
 use Rattle.join.proofs.join.Statement.{statement}
 use Rattle.join.proofs.join.Tie as tie
 
@@ -64,6 +60,11 @@ module _ (i : tie.Else1) where
   small =
       few (one [] [] asked) (two [] [] asked) (third [] asked) (none [] [] [] [] []) n m (bare .first (i .if1 .left)) (bare .second (i .if1 .left))
 
+  rows : InRows (one [] [] asked .tables .lefts) (anchorIn (one [] [] asked) .right) n
+      × InRows (two [] [] asked .tables .lefts) (anchorIn (two [] [] asked) .right) m
+  rows =
+      both-in-rows (one [] [] asked) (two [] [] asked) (third [] asked) (none [] [] [] [] []) n m (bare .first (i .if1 .left)) (bare .second (i .if1 .left))
+
   low : 1 ≤ n + m → anchorIn (third [] asked) .tag ≤ 4294967264
   low =
       low-tag (one [] [] asked) (two [] [] asked) (third [] asked) (none [] [] [] [] []) n m (bare .first (i .if1 .left)) (bare .second (i .if1 .left))
@@ -88,7 +89,7 @@ abbrev laying : tie.After-fill → tie.Else2
 laying f = let k = f .before .before .before in k .before .before
 
 fill-requires : tie.Need-fill-requires
-fill-requires c κs = let k = c .before .before .before .before in small (first-test k)
+fill-requires c κs = let k = c .before .before .before .before in (small (first-test k), rows (first-test k))
 
 abbrev filled : tie.After-struct-known4 → tie.After-fill
 filled s = let k = s .before .before .before in let l = k .before .before .before in l .before .before .before

@@ -1,15 +1,12 @@
 -- The controls that the rows are; what was left, stored.
-use mathlib.Core.Path.{_≡_, refl, sym, ap, _∙_}
-use mathlib.Core.Bool.{Bool, cond}
-use mathlib.Core.List.{List}
+use mathlib.Core.{Path.{_≡_, refl, sym, ap, _∙_}, Bool.{Bool, cond}, List.List}
 use Prim.Native.Nat.{ℕ}
 use lib.ListN.{set, replicate}
 use borrow.Author.Needs.{needs}
 use Rattle.model.specs.Tables.{Queue, queueOf, idle}
 use Rattle.rows.specs.Rows.{controlOf, callOf, recordsOf, uppersOf, queueIn, withCallAt}
 use Rattle.join.specs.Anchored.{Joins}
-use Rattle.join.proofs.Joining.{same-three, stored, untouched, upper}
-use Rattle.join.proofs.zc_join.Statement.{statement}
+use Rattle.join.proofs.{Joining.{same-three, stored, untouched, upper}, zc_join.Statement.statement}
 use Rattle.join.proofs.zc_join.Tie as tie
 
 module _ (j : tie.After-join) where

@@ -3,10 +3,8 @@ use borrow.Author.Needs.{needs}
 use mathlib.Core.Path.{ap, _∙_}
 use lib.ListN.{length}
 use Rattle.historyfile.specs.{Buffer.reading, Reading.whole}
-use Rattle.judge.specs.Judging.{judged, told}
-use Rattle.judge.specs.declared.Judged.the-variants.{Told}
-use Rattle.judge.proofs.Enough.{enough, judged-so, unread}
-use Rattle.judge.proofs.judge_in.Statement.{statement}
+use Rattle.judge.specs.{Judging.{judged, told}, declared.Judged.the-variants.Told}
+use Rattle.judge.proofs.{Enough.{enough, judged-so, unread}, judge_in.Statement.statement}
 use Rattle.judge.proofs.judge_in.Tie as tie
 
 returns : tie.Need-returns

@@ -1,8 +1,7 @@
 -- A space, the digits, the line's end.
-use Rattle.lines.proofs.Puts.{put-more}
+use Rattle.lines.proofs.{Puts.put-more, put_anchor.Statement.statement}
 use Rattle.lines.specs.Line.{anchorText}
 use borrow.Author.Needs.{needs}
-use Rattle.lines.proofs.put_anchor.Statement.{statement}
 use Rattle.lines.proofs.put_anchor.Tie as tie
 
 same-length : tie.Need-same-length

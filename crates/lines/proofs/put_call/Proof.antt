@@ -1,8 +1,7 @@
 -- The task, then the word.
-use Rattle.lines.proofs.Puts.{put-more}
+use Rattle.lines.proofs.{Puts.put-more, put_call.Statement.statement}
 use Rattle.lines.specs.Line.{callOf}
 use borrow.Author.Needs.{needs}
-use Rattle.lines.proofs.put_call.Statement.{statement}
 use Rattle.lines.proofs.put_call.Tie as tie
 
 returns : tie.Need-returns

@@ -1,8 +1,7 @@
 -- The slot, then the label.
-use Rattle.lines.proofs.Puts.{put-more}
+use Rattle.lines.proofs.{Puts.put-more, put_entry.Statement.statement}
 use Rattle.lines.specs.Line.{entryOf}
 use borrow.Author.Needs.{needs}
-use Rattle.lines.proofs.put_entry.Statement.{statement}
 use Rattle.lines.proofs.put_entry.Tie as tie
 
 returns : tie.Need-returns

@@ -1,8 +1,7 @@
 -- The columns one after the other.
-use Rattle.lines.proofs.Puts.{put-more}
+use Rattle.lines.proofs.{Puts.put-more, put_line.Statement.statement}
 use Rattle.lines.specs.Line.{lineOf}
 use borrow.Author.Needs.{needs}
-use Rattle.lines.proofs.put_line.Statement.{statement}
 use Rattle.lines.proofs.put_line.Tie as tie
 
 returns : tie.Need-returns

@@ -1,8 +1,7 @@
 -- The call, then its outcome.
-use Rattle.lines.proofs.Puts.{put-more}
+use Rattle.lines.proofs.{Puts.put-more, put_open.Statement.statement}
 use Rattle.lines.specs.Line.{told}
 use borrow.Author.Needs.{needs}
-use Rattle.lines.proofs.put_open.Statement.{statement}
 use Rattle.lines.proofs.put_open.Tie as tie
 
 returns : tie.Need-returns

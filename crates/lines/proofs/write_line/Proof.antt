@@ -1,9 +1,8 @@
 -- With room it is `put_line`, without nothing is stored.
 use mathlib.Core.Path.{sym, _∙_}
 use borrow.Author.{Tests.leb-true, Needs.needs}
-use Rattle.lines.proofs.Puts.{put-none}
+use Rattle.lines.proofs.{Puts.put-none, write_line.Statement.statement}
 use Rattle.lines.specs.Line.{givenRoom}
-use Rattle.lines.proofs.write_line.Statement.{statement}
 use Rattle.lines.proofs.write_line.Tie as tie
 
 put-line-requires : tie.Need-put-line-requires

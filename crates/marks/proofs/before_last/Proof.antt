@@ -1,15 +1,12 @@
 -- Before word k the marks of the slots below 64 k are counted.
 use mathlib.Core.Path.{_≡_, refl, ap, _∙_, sym}
-use Prim.Native.Nat.{ℕ, _≤_, _<_, _+_, _-_, _*_, _/_, _^_, min}
+use Prim.Native.Nat.{ℕ, _≤_, _<_, _+_, _-_, _*_, _/_}
 use native.Mathlib.Omega.{arith}
-use lib.Count.{ones}
-use lib.ListN.{getD, length, List·getD-eq-default}
-use borrow.Author.Needs.{needs}
-use borrow.Author.Tests.{ne-eqb}
-use Rattle.model.specs.{Report.takenSlots, Lists.count}
+use lib.{Count.ones, ListN.{getD, List·getD-eq-default}}
+use borrow.Author.{Needs.needs, Tests.ne-eqb}
+use Rattle.model.specs.Report.{takenSlots}
 use Rattle.marks.specs.Masked.{maskedWord}
-use Rattle.marks.proofs.Ones.{marks, whole-step, blank, marks-le}
-use Rattle.marks.proofs.before_last.Statement.{statement}
+use Rattle.marks.proofs.{Ones.{marks, whole-step, blank, marks-le}, before_last.Statement.statement}
 use Rattle.marks.proofs.before_last.Tie as tie
 
 abbrev Inv-loop : tie.InvT-loop

@@ -1,12 +1,9 @@
 -- What is kept of a word is a remainder, and bit 0 is dropped by halving.
-use mathlib.Core.Path.{_≡_, ap, _∙_, sym}
-use mathlib.Core.Logic.{_≢_, ⊎-elim}
+use mathlib.Core.{Path.{_≡_, ap, _∙_, sym}, Logic.{_≢_, ⊎-elim}}
 use Prim.Native.Nat.{ℕ, _+_, _-_, _*_, _/_, _%_, _^_}
 use native.Mathlib.{Nat.mod-eq-of-lt, Omega.arith}
-use lib.Pow.{high, ones-split, ones-lt}
-use lib.Bits.{bitAnd, and-mask, and-high}
-use borrow.Author.Needs.{needs}
-use borrow.Author.Tests.{eq-eqb, ne-eqb}
+use lib.{Pow.{high, ones-split, ones-lt}, Bits.{bitAnd, and-mask, and-high}}
+use borrow.Author.{Needs.needs, Tests.{eq-eqb, ne-eqb}}
 use Rattle.marks.specs.Masked.{upToLast}
 use Rattle.marks.proofs.masked.Statement.{statement}
 use Rattle.marks.proofs.masked.Tie as tie

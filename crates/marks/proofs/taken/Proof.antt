@@ -1,12 +1,11 @@
 -- The first word's marks, with those up to the last word's, with this one's.
-use mathlib.Core.Path.{_≡_, ap, _∙_, sym}
-use Prim.Native.Nat.{ℕ, _≤_, _+_, _-_, _*_, _/_, min}
+use mathlib.Core.Path.{_≡_, ap, _∙_}
+use Prim.Native.Nat.{ℕ, _≤_, _+_, _-_, _/_, min}
 use native.Mathlib.Omega.{arith}
 use lib.Count.{ones}
 use Rattle.model.specs.Report.{takenSlots}
 use Rattle.marks.specs.Masked.{maskedWord}
-use Rattle.marks.proofs.Ones.{marks, first-word, last-word, marks-le}
-use Rattle.marks.proofs.taken.Statement.{statement}
+use Rattle.marks.proofs.{Ones.{marks, first-word, last-word, marks-le}, taken.Statement.statement}
 use Rattle.marks.proofs.taken.Tie as tie
 
 module _ (m : tie.After-masked) where

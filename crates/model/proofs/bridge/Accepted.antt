@@ -1,19 +1,15 @@
 -- What an accepted start or step tells of the tables.
-use mathlib.Core.Bool.{_&&_, false, true}
-use mathlib.Core.Logic.{_≢_}
-use mathlib.Core.Path.{_≡_, refl}
+use mathlib.Core.{Bool.{_&&_, false, true}, Logic._≢_, Path.{_≡_, refl}}
 use Prim.Native.Nat.{_<_, _≤_, ℕ}
 use lib.ListN.{length}
 use borrow.Author.Tests.{eqb-false, eqb-true, leb-true, ltb-true, not-false}
-use Rattle.model.specs.{Places.wordFound, Lists.All}
-use Rattle.model.specs.declared.Asked.{Asked}
-use Rattle.model.specs.Refusals.{Rule, among, fits, late, startRules, startRefusal, namedPush, pooledPush, nothingAsked, popRefusal}
-use Rattle.model.specs.Refusals.{pushRefusal, putRefusal, stepRefusal, stepRules, stepSound, stepTests}
+use Rattle.model.specs.{Places.wordFound, Lists.All, declared.Asked.Asked, Refusals.{stepSound, stepTests}}
+use Rattle.model.specs.Refusals.{Rule, among, fits, late, startRules, startRefusal, namedPush, pooledPush}
+use Rattle.model.specs.Refusals.{nothingAsked, popRefusal, pushRefusal, pushPooledRefusal, stepRefusal, stepRules}
 use Rattle.model.specs.Tables.{Queue, isPooled, marked, recordAt}
-use Rattle.model.proofs.tests.Rules.{cleared, tests}
-use Rattle.model.proofs.tests.Truth.{and-true}
-use Rattle.model.proofs.bridge.{Decoded.RoomAt, Room.room-tested, View.placeOf}
-use Rattle.model.proofs.bridge.Facts.{ControlFine, RecordFine, RowsFine, control-fine, from1-true, record-fine, rows-fine}
+use Rattle.model.proofs.tests.{Rules.{cleared, tests}, Truth.and-true}
+use Rattle.model.proofs.bridge.{Decoded.RoomAt, Room.room-tested, View.placeOf, Facts.rows-fine}
+use Rattle.model.proofs.bridge.Facts.{ControlFine, RecordFine, RowsFine, control-fine, from1-true, record-fine}
 
 module _ (q : Queue) (t : ℕ) where
   -- The tables are long enough, and the task is known.
@@ -85,8 +81,9 @@ module _ (q : Queue) (t : ℕ) where
         named = right-push side a e;
       }
 
-  pub put-accepted : (side : ℕ) → putRefusal (q .tables) (among q t) (recordAt q t) side ≡ 0 → Starting side × (isPooled (q .tables .control) ≡ true)
-  put-accepted side e = let a = pooledPush (q .tables) in (start-accepted side a e, not-false _ (right-push side a e))
+  pub push-pooled-accepted : (side : ℕ) → pushPooledRefusal (q .tables) (among q t) (recordAt q t) side ≡ 0
+      → Starting side × (isPooled (q .tables .control) ≡ true)
+  push-pooled-accepted side e = let a = pooledPush (q .tables) in (start-accepted side a e, not-false _ (right-push side a e))
 
   pub pop-accepted : (side : ℕ) → popRefusal (q .tables) (among q t) (recordAt q t) side ≡ 0 → Starting side
   pop-accepted side e = start-accepted side nothingAsked e

@@ -1,18 +1,16 @@
 -- What holds of the move of each place, done or failed, holds of every move.
-use mathlib.Core.Bool.{Bool, cond}
-use mathlib.Core.{Logic._≢_, Path._≡_}
+use mathlib.Core.{Bool.{Bool, cond}, Logic._≢_, Path._≡_}
 use Prim.Native.Nat.{ℕ, suc, _+_, _≤_}
 use native.Mathlib.Omega.{arith}
 use lib.Dec.{eqb}
 use borrow.Author.Tests.{eqb-false, eqb-true}
-use Rattle.word.specs.Anchor.{anchorOf, packAnchor}
-use Rattle.word.specs.Link.{linkOf, packLink}
-use Rattle.model.specs.Places.{Move, Touch, at1, at10, at11, at12, at13, at14, at15, at16, at17, at2, at3, at4, at5, at6, at7, at9, clearMark}
-use Rattle.model.specs.Places.{endSeen, linkSide, move, new4, nothing, raised, row, setAnchor, setHead, setLink, setNext, sideOf, takeSlot}
-use Rattle.model.specs.Tables.{isPooled, withLink, withNeighbour, withOwn, withSeen}
+use Rattle.word.specs.{Anchor.{anchorOf, packAnchor}, Link.{linkOf, packLink}}
+use Rattle.model.specs.Places.{Move, Touch, at1, at10, at11, at12, at13, at14, at15, at16, at17, at2, at3, at4}
+use Rattle.model.specs.Places.{at5, at6, at7, at9, clearMark, endSeen, linkSide, move, new4, nothing, raised, row}
+use Rattle.model.specs.{Places.{setAnchor, setHead, setLink, setNext, sideOf, takeSlot}, Kinds.isPush}
+use Rattle.model.specs.{Tables.{isPooled, withLink, withNeighbour, withOwn, withSeen}, Sides.facing}
 use Rattle.model.specs.declared.{Control.Control, Call.Call}
 use Rattle.model.proofs.tests.Truth.{by-test, either}
-use Rattle.model.specs.{Kinds.isPush, Sides.facing}
 
 -- The touches of a change of Anchor at 2 and 10, and of a link at 3 and 9.
 abbrev pub both : Call → ℕ
@@ -23,8 +21,8 @@ both r = let a = anchorOf (r .seen) in
 abbrev pub settled : Call → ℕ
 settled r = let a = anchorOf (r .seen) in packAnchor (record { tag = a .tag + 1; status = 0; left = a .left; right = a .right })
 
-abbrev pub named : Call → ℕ → ℕ
-named r tag = packLink (record { tag = tag; slot = endSeen r })
+abbrev pub endLink : Call → ℕ → ℕ
+endLink r tag = packLink (record { tag = tag; slot = endSeen r })
 
 module _ (c : Control) (w : ℕ) (P : Touch → Call → Type 0) where
   abbrev Holds : Move → Type 0
@@ -40,8 +38,8 @@ module _ (c : Control) (w : ℕ) (P : Touch → Call → Type 0) where
     pub four-push : P (setAnchor (new4 r)) (withSeen r (new4 r) 1)
     pub four-pop : P (setAnchor (new4 r)) r
     pub ten : P (setAnchor (settled r)) r
-    pub three : P (setLink (linkSide r) (row r) (named r (linkOf w .tag))) r
-    pub nine : P (setLink (linkSide r) (row r) (named r (linkOf (r .link) .tag + 1))) r
+    pub three : P (setLink (linkSide r) (row r) (endLink r (linkOf w .tag))) r
+    pub nine : P (setLink (linkSide r) (row r) (endLink r (linkOf (r .link) .tag + 1))) r
     pub eleven : r .place ≡ 11 → P (clearMark (row r)) r
     pub keeps : r .place ≡ 11 → P (clearMark (row r)) (withOwn r (row r) w)
     pub head : 11 ≤ r .place → P nothing (withLink r (c .head))

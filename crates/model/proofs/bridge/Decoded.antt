@@ -3,13 +3,10 @@ use mathlib.Core.{List.[], Path._≡_}
 use Prim.Native.Nat.{_<_, ℕ}
 use lib.{Dec.eqb, ListN.getD}
 use Rattle.word.specs.{Anchor.anchorOf, Link.linkOf}
-use Rattle.model.specs.{Calls.entryOf, Tables.Tables}
-use Rattle.model.specs.Places.{Move, wordFound, move}
+use Rattle.model.specs.{Calls.entryOf, Tables.Tables, Places.{Move, wordFound, move}, declared.Call.Call}
 use Rattle.model.specs.Route.{answer, goes, onward, popRoute, pushRoute, route}
-use Rattle.model.specs.declared.Call.{Call}
-use Rattle.model.proofs.tests.Truth.{split}
+use Rattle.model.proofs.{tests.Truth.split, bridge.View.{answerSeen, linkAt, placeOf, recOf, touchSeen, view}}
 use Rattle.model.proofs.machine.Machine as M
-use Rattle.model.proofs.bridge.View.{answerSeen, linkAt, placeOf, recOf, touchSeen, view}
 
 -- Where a record goes with a place's move.
 abbrev pub next : Call → Move → ℕ

@@ -1,17 +1,14 @@
 -- The step of a sound record is the machine's, whatever its place and kind.
-use mathlib.Core.Logic.{_≢_, _⊎_, inl, inr}
-use mathlib.Core.Path.{_≡_, refl, subst, sym}
+use mathlib.Core.{Logic.{_≢_, _⊎_, inl, inr}, Path.{_≡_, refl, subst, sym}}
 use Prim.Native.Nat.{_<_, _^_, _≤_, ℕ}
 use native.Mathlib.Omega.{arith}
-use Rattle.model.specs.Tables.{Tables, atPlace, isPooled, ofKind}
-use Rattle.model.specs.declared.Call.{Call}
+use Rattle.model.specs.{Tables.{Tables, atPlace, isPooled, ofKind}, declared.Call.Call}
 use Rattle.model.proofs.tests.{ByPlace.by-place, Truth.decide-eq}
-use Rattle.model.proofs.bridge.Decoded.{RoomAt, Seen}
-use Rattle.model.proofs.bridge.Facts.{ControlFine, LinksFine, RecordFine}
+use Rattle.model.proofs.bridge.{Decoded.{RoomAt, Seen}, Facts.{ControlFine, LinksFine, RecordFine}, View.placeOf}
 use Rattle.model.proofs.bridge.Helping.{place10, place5, place6, place7, place8, place9}
-use Rattle.model.proofs.bridge.Pooling.{place11-pop, place12-push, place13-push, place14-push, place15-pop, place16-pop, place17-pop}
-use Rattle.model.proofs.bridge.Trying.{place1-pop, place1-push, place2-pop, place2-push, place3-pop, place3-push, place4-pop, place4-push}
-use Rattle.model.proofs.bridge.View.{placeOf}
+use Rattle.model.proofs.bridge.Pooling.{place11-pop, place12-push, place13-push, place14-push, place15-pop}
+use Rattle.model.proofs.bridge.{Pooling.{place16-pop, place17-pop}, Trying.{place4-pop, place4-push}}
+use Rattle.model.proofs.bridge.Trying.{place1-pop, place1-push, place2-pop, place2-push, place3-pop, place3-push}
 
 by-kind : (P : ℕ → Type 0) (k : ℕ) → k ≤ 1 → (k ≡ 0 → P 0) → (k ≡ 1 → P 1) → P k
 by-kind P k h f g = go (decide-eq k 0)

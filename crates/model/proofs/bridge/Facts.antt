@@ -1,23 +1,15 @@
 -- What the tests of soundness and of length say, as facts.
-use mathlib.Core.Bool.{Bool, cond, false, not, true}
-use mathlib.Core.Logic.{_≢_}
-use mathlib.Core.Path.{_∙_, _≡_, ap, refl, sym}
+use mathlib.Core.{Bool.{Bool, cond, false, not, true}, Logic._≢_, Path.{_∙_, _≡_, ap, refl, sym}}
 use Prim.Native.Nat.{_/_, _<_, _^_, _≤_, ℕ}
 use native.Mathlib.Omega.{arith}
-use lib.Dec.{eqb, leb}
-use lib.ListN.{getD, length}
+use lib.{Dec.{eqb, leb}, ListN.{getD, length}}
 use borrow.Author.Tests.{eq-eqb, eqb-true, le-leb, leb-true, ltb-true, ne-eqb}
-use Rattle.word.specs.Anchor.{anchorOf}
-use Rattle.word.specs.Link.{linkOf, spareOf}
-use Rattle.word.specs.declared.Anchor.{Anchor}
+use Rattle.word.specs.{Anchor.anchorOf, Link.{linkOf, spareOf}, declared.Anchor.Anchor}
 use Rattle.model.specs.Sound.{anchorSound, anchorTests, controlSound, controlTests, from1, linkSound, recordSound}
-use Rattle.model.specs.Sound.{recordTests, rowTests, rowsFit}
-use Rattle.model.specs.Tables.{Tables, isPooled}
+use Rattle.model.specs.{Sound.{recordTests, rowTests, rowsFit}, Tables.{Tables, isPooled}, Kinds.{giving, owning}}
 use Rattle.model.specs.declared.{Control.Control, Call.Call}
-use Rattle.model.proofs.tests.Rules.{tests}
+use Rattle.model.proofs.{tests.Rules.tests, bridge.View.linkAt}
 use Rattle.model.proofs.tests.Truth.{and-of, and-true, beq-eq, not-both, or-first, or-left, or-right, or-second}
-use Rattle.model.proofs.bridge.View.{linkAt}
-use Rattle.model.specs.Kinds.{giving, owning}
 
 pub record AnchorFine (slots : ℕ) (a : Anchor) : Type 0 where
   pub status : a .status ≤ 2

@@ -1,22 +1,17 @@
 -- Places 5 to 10, which push and pop share: a step of the tables is a step of the decoded machine.
-use mathlib.Core.Bool.{Bool, false, true}
-use mathlib.Core.Path.{_∙_, _≡_, ap, refl, sym}
+use mathlib.Core.{Bool.{Bool, false, true}, Path.{_∙_, _≡_, ap, refl, sym}}
 use Prim.Native.Nat.{_+_, _<_, _^_, _≤_, suc, ℕ}
 use native.Mathlib.Omega.{arith}
 use lib.Dec.{eqb}
 use borrow.Author.Tests.{eqb-true}
-use Rattle.word.specs.declared.Anchor.{Anchor}
-use Rattle.word.specs.Anchor.{anchorOf, packAnchor}
-use Rattle.word.specs.Link.{linkOf, packLink, spareOf}
+use Rattle.word.specs.{declared.Anchor.Anchor, Anchor.{anchorOf, packAnchor}, Link.{linkOf, packLink, spareOf}}
 use Rattle.model.specs.Places.{at10, at5, at6, at7, at9, endSeen, linkSide, move, row, setLink, sideOf, wordFound}
-use Rattle.model.specs.Route.{answer, goes, onward, popRoute, pushRoute}
-use Rattle.model.specs.Tables.{Tables, atPlace}
+use Rattle.model.specs.{Route.{answer, goes, onward, popRoute, pushRoute}, Tables.{Tables, atPlace}}
 use Rattle.model.specs.declared.Call.{Call}
-use Rattle.model.proofs.tests.Truth.{split}
-use Rattle.model.proofs.machine.Machine as M
+use Rattle.model.proofs.{tests.Truth.split, bridge.View.{anchorSeen, linkAt, linkSeen, recOf, touchSeen, view}}
 use Rattle.model.proofs.bridge.Decoded.{AnchorRoom, LinkRoom, Seen, route-shared, same-touch}
-use Rattle.model.proofs.bridge.View.{anchorSeen, linkAt, linkSeen, recOf, touchSeen, view}
 use Rattle.model.proofs.bridge.Words.{anchor-back, link-back, same-link-word, same-word, towards-status}
+use Rattle.model.proofs.machine.Machine as M
 
 module _ (q : Tables) (r : Call) where
   abbrev at : ℕ → Call

@@ -1,12 +1,8 @@
 -- A mark that is put is read, and every other mark stays.
-use mathlib.Core.List.{List}
-use mathlib.Core.Path.{_∙_, _≡_, ap, subst⁻¹, sym}
+use mathlib.Core.{List.List, Path.{_∙_, _≡_, ap, subst⁻¹, sym}}
 use Prim.Native.Nat.{_%_, _*_, _+_, _-_, _/_, _<_, _^_, ℕ}
-use native.Mathlib.Decide.{decLt, ℕ-discrete}
-use native.Mathlib.{Nat.mod-lt, Omega.arith}
-use lib.Dec.{eqb}
-use lib.ListN.{getD, length}
-use lib.Pow.{field, high, low, mod-mod-pow, pow-pos, shr-shr}
+use native.Mathlib.{Decide.{decLt, ℕ-discrete}, Nat.mod-lt, Omega.arith}
+use lib.{Dec.eqb, ListN.{getD, length}, Pow.{field, high, low, mod-mod-pow, pow-pos, shr-shr}}
 use lib.Seq.{getD-set-other, getD-set-same}
 use Rattle.model.specs.Tables.{bit, marked, putBit, withMark}
 

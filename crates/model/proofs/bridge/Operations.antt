@@ -1,33 +1,23 @@
 -- Accepted starts and steps of the tables are those of the decoded machine, so they keep the invariant.
-use mathlib.Core.Bool.{cond, false, true}
-use mathlib.Core.Logic.{_≢_}
-use mathlib.Core.Path.{_∙_, _≡_, ap, refl, subst, sym}
+use mathlib.Core.{Bool.{cond, false, true}, Logic._≢_, Path.{_∙_, _≡_, ap, refl, subst, sym}}
 use Prim.Native.Nat.{_<_, _≤_, ℕ}
 use native.Mathlib.Omega.{arith}
-use lib.Dec.{eqb, ltb}
-use lib.ListN.{getD, set}
+use lib.{Dec.{eqb, ltb}, ListN.{getD, set}}
 use borrow.Author.Tests.{lt-ltb}
-use Rattle.model.specs.Calls.{entryOf, finish}
-use Rattle.model.specs.Places.{Move, Touch, clearMark, wordFound, move, nothing, setAnchor, setHead, setLink, setNext, takeSlot}
-use Rattle.model.specs.Route.{answer, counted, goes}
-use Rattle.model.specs.Tables.{Queue, Tables, asking, isPooled, marked, recordAt, started, taskAt, unused, withCall, withTaken}
+use Rattle.model.specs.{Calls.{entryOf, finish}, Places.{setNext, takeSlot}, Route.{answer, counted, goes}}
+use Rattle.model.specs.Places.{Move, Touch, clearMark, wordFound, move, nothing, setAnchor, setHead, setLink}
+use Rattle.model.specs.Tables.{Queue, Tables, asking, isPooled, marked, recordAt, started, taskAt, unused}
+use Rattle.model.specs.{Tables.{withCall, withTaken}, declared.{Call.Call, Record.Record}}
 use Rattle.model.specs.declared.Answer as answered
-use Rattle.model.specs.declared.{Call.Call, Record.Record}
-use Rattle.model.proofs.tests.{ByPlace.by-place, Truth.not-both}
-use Rattle.model.proofs.machine.Answers.{Ends, act-ends}
+use Rattle.model.proofs.{tests.{ByPlace.by-place, Truth.not-both}, invariant.{Invariant.Inv, Tasks.Task}}
+use Rattle.model.proofs.{machine.{Answers.{Ends, act-ends}, Machine.upd}, places.Step.{step-inv, step-stands}}
+use Rattle.model.proofs.places.{NoFreeSlot.{Lacks, act-lacks}, Start.{ask-inv, pop-inv, push-inv}, Shown.Stands}
+use Rattle.model.proofs.bridge.{Accepted.{Lies, Stepping}, Decoded.{next, seenMove}, EveryPlace.step-seen}
+use Rattle.model.proofs.bridge.{Facts.LinksFine, Touches.move-fine, Stores.{view-taken, view-touched}}
+use Rattle.model.proofs.bridge.Stores.{TouchFine, links-touched, task-set, touched-pooled, touched-tasks}
+use Rattle.model.proofs.bridge.View.{answerSeen, placeOf, recOf, stateOf, touchSeen, view}
 use Rattle.model.proofs.machine.Book as B
 use Rattle.model.proofs.machine.Machine as M
-use Rattle.model.proofs.machine.Machine.{upd}
-use Rattle.model.proofs.invariant.{Invariant.Inv, Tasks.Task}
-use Rattle.model.proofs.places.NoSlot.{Lacks, act-lacks}
-use Rattle.model.proofs.places.Start.{ask-inv, pop-inv, push-inv}
-use Rattle.model.proofs.places.Step.{step-inv, step-stands}
-use Rattle.model.proofs.places.Shown.{Stands}
-use Rattle.model.proofs.bridge.Accepted.{Lies, Stepping}
-use Rattle.model.proofs.bridge.Decoded.{next, seenMove}
-use Rattle.model.proofs.bridge.{EveryPlace.step-seen, Facts.LinksFine, Touches.move-fine}
-use Rattle.model.proofs.bridge.Stores.{TouchFine, links-touched, task-set, touched-pooled, touched-tasks, view-taken, view-touched}
-use Rattle.model.proofs.bridge.View.{answerSeen, placeOf, recOf, stateOf, touchSeen, view}
 
 pub not-idle : (p : ℕ) → p ≢ 0 → p ≤ 17 → M.isIdle (placeOf p) ≡ false
 not-idle p n h = by-place (λ p. M.isIdle (placeOf p)
@@ -143,7 +133,7 @@ module _ (q : Queue) (b : B.Book) (i : Inv (record { state = stateOf q; book = b
     step-pooled = ap (λ (n : ℕ). eqb n 1) (touched-pooled (m .touch) g)
 
     -- Who answers *no slot* is a push in a pooled queue whose head names none.
-    pub step-lacks : B.isNoSlot (answerSeen reply) ≡ true → (view g .pooled ≡ true) × (view g .head .slot ≡ 0) × (b .calls t .kind ≡ M.push)
+    pub step-lacks : B.isNoFreeSlot (answerSeen reply) ≡ true → (view g .pooled ≡ true) × (view g .head .slot ≡ 0) × (b .calls t .kind ≡ M.push)
     unfolding stateOf recOf
     step-lacks =
         let w = subst (λ (x : M.Rec). Task (x .place) (view g) (i .owner) t x (b .calls t)) (task-of q t (s .lies .known)) (i .tasks t) in
@@ -151,7 +141,7 @@ module _ (q : Queue) (b : B.Book) (i : Inv (record { state = stateOf q; book = b
 
     -- A push that has its effect stands at the end of its side.
     pub step-told : let k = B.granted (touchSeen (m .touch)) (b .calls t) in
-        B.effect (view g .anchor) (view (stepped .tables) .anchor) (answerSeen reply) ≡ true → B.isNoSlot (answerSeen reply) ≡ false
+        B.effect (view g .anchor) (view (stepped .tables) .anchor) (answerSeen reply) ≡ true → B.isNoFreeSlot (answerSeen reply) ≡ false
         → k .kind ≡ M.push
         → M.tip (view (stepped .tables) .anchor) (k .side) ≡ k .slot
     unfolding stateOf recOf
@@ -165,15 +155,15 @@ module _ (q : Queue) (b : B.Book) (i : Inv (record { state = stateOf q; book = b
           book = b;
         }) i t busy) in
         let is = ap (λ (z : M.State). z .shared .anchor) state-is in
-        go (m .touch) (subst (λ (a : M.Anchor). B.effect (view g .anchor) a (answerSeen reply) ≡ true → B.isNoSlot (answerSeen reply) ≡ false
+        go (m .touch) (subst (λ (a : M.Anchor). B.effect (view g .anchor) a (answerSeen reply) ≡ true → B.isNoFreeSlot (answerSeen reply) ≡ false
         → b .calls t .kind ≡ M.push
         → M.tip a (b .calls t .side) ≡ B.granted (touchSeen (m .touch)) (b .calls t) .slot) (sym is) stands) e n k
       where
         go : (w : Touch) → (B.effect (view g .anchor) (view (stepped .tables) .anchor) (answerSeen reply) ≡ true
-            → B.isNoSlot (answerSeen reply) ≡ false → b .calls t .kind ≡ M.push
+            → B.isNoFreeSlot (answerSeen reply) ≡ false → b .calls t .kind ≡ M.push
             → M.tip (view (stepped .tables) .anchor) (b .calls t .side) ≡ B.granted (touchSeen w) (b .calls t) .slot)
             → let k = B.granted (touchSeen w) (b .calls t) in B.effect (view g .anchor) (view (stepped .tables) .anchor) (answerSeen reply) ≡ true
-            → B.isNoSlot (answerSeen reply) ≡ false → k .kind ≡ M.push
+            → B.isNoFreeSlot (answerSeen reply) ≡ false → k .kind ≡ M.push
             → M.tip (view (stepped .tables) .anchor) (k .side) ≡ k .slot
         go nothing f = f
         go (setAnchor a) f = f

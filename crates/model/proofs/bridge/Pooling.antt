@@ -5,15 +5,12 @@ use native.Mathlib.Omega.{arith}
 use lib.Dec.{eqb}
 use borrow.Author.Tests.{eqb-true}
 use Rattle.word.specs.Link.{linkOf, packLink, spareOf}
-use Rattle.model.specs.Places.{at11, at12, at13, at14, at15, at16, at17, linkSide, move, row, sideOf, noneLeft}
-use Rattle.model.specs.Route.{answer, goes, onward, popRoute, pushRoute, route}
+use Rattle.model.specs.Places.{at11, at12, at13, at14, at15, at16, at17, linkSide, move, row, sideOf, stackEmpty}
+use Rattle.model.specs.{Route.{answer, goes, onward, popRoute, pushRoute, route}, declared.Call.Call}
 use Rattle.model.specs.Tables.{Tables, atPlace, isPooled, ofKind}
-use Rattle.model.specs.declared.Call.{Call}
-use Rattle.model.proofs.tests.Truth.{split}
+use Rattle.model.proofs.{tests.Truth.split, bridge.Words.{link-back, same-link-word}}
+use Rattle.model.proofs.bridge.{Decoded.{HeadRoom, Seen, same-touch}, View.{linkSeen, recOf, view}}
 use Rattle.model.proofs.machine.Machine as M
-use Rattle.model.proofs.bridge.Decoded.{HeadRoom, Seen, same-touch}
-use Rattle.model.proofs.bridge.View.{linkSeen, recOf, view}
-use Rattle.model.proofs.bridge.Words.{link-back, same-link-word}
 
 module _ (q : Tables) (r : Call) where
   -- At a place and of a kind: 0 push, 1 pop.
@@ -31,7 +28,7 @@ module _ (q : Tables) (r : Call) where
 
   pub place12-push : Seen q (at 12 0)
   unfolding recOf view move at12 row linkSide sideOf onward route pushRoute popRoute goes answer
-  place12-push = split (noneLeft head) (λ e. rw e) (λ e. rw e)
+  place12-push = split (stackEmpty head) (λ e. rw e) (λ e. rw e)
 
   pub place13-push : Seen q (at 13 0)
   unfolding recOf view move at13 row linkSide sideOf onward route pushRoute popRoute goes answer

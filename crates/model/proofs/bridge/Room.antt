@@ -1,19 +1,13 @@
 -- The test that a tag has room, place by place, says just what a change needs.
-use mathlib.Core.Bool.{Bool, false, true}
-use mathlib.Core.Logic.{_≢_}
-use mathlib.Core.Path.{_∙_, _≡_, ap, refl}
+use mathlib.Core.{Bool.{Bool, false, true}, Logic._≢_, Path.{_∙_, _≡_, ap, refl}}
 use Prim.Native.Nat.{_<_, _≤_, ℕ}
 use lib.Dec.{eqb, ltb}
 use borrow.Author.Tests.{eq-eqb, eqb-true, lt-ltb, ltb-true}
 use Rattle.word.specs.{Anchor.anchorOf, Link.linkOf}
-use Rattle.model.specs.Places.{at1, at10, at11, at12, at13, at14, at15, at16, at17, at2, at3, at4, at5, at6, at7, at9, wordFound}
-use Rattle.model.specs.Places.{linkSide, move, row, sideOf}
-use Rattle.model.specs.Refusals.{hasRoom}
-use Rattle.model.specs.Tables.{atPlace, Tables, isPooled}
-use Rattle.model.specs.declared.Call.{Call}
-use Rattle.model.proofs.tests.{ByPlace.by-place, Truth.split}
-use Rattle.model.proofs.bridge.Decoded.{RoomAt}
-use Rattle.model.proofs.bridge.View.{linkAt, placeOf}
+use Rattle.model.specs.Places.{at1, at10, at11, at12, at13, at14, at15, at16, at17, at2, at3, at4, at5, at6, at7}
+use Rattle.model.specs.{Places.{at9, wordFound, linkSide, move, row, sideOf}, Refusals.hasRoom}
+use Rattle.model.specs.{Tables.{atPlace, Tables, isPooled}, declared.Call.Call}
+use Rattle.model.proofs.{tests.{ByPlace.by-place, Truth.split}, bridge.{Decoded.RoomAt, View.{linkAt, placeOf}}}
 
 module _ (q : Tables) (r : Call) where
   abbrev at : ℕ → Call

@@ -1,24 +1,17 @@
 -- A touch of the tables is a touch of the decoded ones, and link words stay sound.
-use mathlib.Core.Bool.{Bool, cond, false, true}
-use mathlib.Core.List.{List}
-use mathlib.Core.Logic.{_≢_, _⊎_, inl, inr}
+use mathlib.Core.{Bool.{Bool, cond, false, true}, List.List, Logic.{_≢_, _⊎_, inl, inr}}
 use mathlib.Core.Path.{_∙_, _≡_, ap, fun-ext, refl, subst, sym}
 use Prim.Native.Nat.{_/_, _<_, _^_, _≤_, ℕ}
 use native.Mathlib.Omega.{arith}
-use lib.Dec.{eqb, ltb}
-use lib.ListN.{getD, length, set}
-use lib.Seq.{getD-set-other, getD-set-same}
+use lib.{Dec.{eqb, ltb}, ListN.{getD, length, set}, Seq.{getD-set-other, getD-set-same}}
 use borrow.Author.Tests.{eqb-false, eqb-true, lt-ltb}
 use Rattle.word.specs.Link.{linkOf, spareOf}
 use Rattle.model.specs.Places.{Touch, apply, clearMark, nothing, setAnchor, setHead, setLink, setNext, takeSlot}
-use Rattle.model.specs.Tables.{Tables, isPooled, marked, withMark, unused, withTaken}
-use Rattle.model.specs.declared.Record.{Record}
-use Rattle.model.proofs.tests.Truth.{by-test, decide-eq, split}
-use Rattle.model.proofs.machine.Machine as M
-use Rattle.model.proofs.machine.Machine.{relink, upd}
-use Rattle.model.proofs.bridge.Facts.{LinksFine, RowsFine}
-use Rattle.model.proofs.bridge.Marks.{marked-other, marked-same}
+use Rattle.model.specs.{Tables.{Tables, isPooled, marked, withMark, unused, withTaken}, declared.Record.Record}
+use Rattle.model.proofs.{tests.Truth.{by-test, decide-eq, split}, machine.Machine.{relink, upd}}
+use Rattle.model.proofs.bridge.{Facts.{LinksFine, RowsFine}, Marks.{marked-other, marked-same}}
 use Rattle.model.proofs.bridge.View.{linkAt, linkSeen, recOf, touchSeen, view}
+use Rattle.model.proofs.machine.Machine as M
 
 -- A store in a list is a store in the function that it stands for.
 upd-list : {A B : Type 0} (f : B → A) (l : List B) (z w : B) (x : ℕ) → x < length l

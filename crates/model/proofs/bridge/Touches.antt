@@ -1,16 +1,13 @@
 -- What a place touches lies within the rows, and a link word that it writes is sound.
-use mathlib.Core.Bool.{Bool, true}
-use mathlib.Core.Path.{_≡_}
+use mathlib.Core.{Bool.{Bool, true}, Path._≡_}
 use Prim.Native.Nat.{_%_, _*_, _+_, _/_, _<_, _^_, _≤_, ℕ}
 use native.Mathlib.Omega.{arith}
 use lib.Dec.{eqb}
 use Rattle.word.specs.Link.{linkOf, packLink}
-use Rattle.model.specs.Places.{endSeen, linkSide, move, row, setLink, sideOf}
+use Rattle.model.specs.{Places.{endSeen, linkSide, move, row, setLink, sideOf}, Kinds.isPush}
 use Rattle.model.specs.declared.{Control.Control, Call.Call}
 use Rattle.model.proofs.tests.Truth.{by-test, either, split}
-use Rattle.model.proofs.bridge.{ByMove.by-move, Facts.RecordFine}
-use Rattle.model.proofs.bridge.Stores.{TouchFine, WordFine}
-use Rattle.model.specs.Kinds.{isPush}
+use Rattle.model.proofs.bridge.{ByMove.by-move, Facts.RecordFine, Stores.{TouchFine, WordFine}}
 
 -- A packed link word is sound.
 pub word-fine : (slots t n : ℕ) → n ≤ slots → n < 2 ^ 15 → WordFine slots (packLink (record { tag = t; slot = n }))

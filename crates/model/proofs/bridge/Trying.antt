@@ -1,23 +1,17 @@
 -- Places 1 to 4, where push and pop differ: a step of the tables is a step of the decoded machine.
-use mathlib.Core.Bool.{Bool, false, true}
-use mathlib.Core.Path.{_≡_, ap, sym}
+use mathlib.Core.{Bool.{Bool, false, true}, Path.{_≡_, ap, sym}}
 use Prim.Native.Nat.{_+_, _<_, _^_, _≤_, ℕ}
 use native.Mathlib.Omega.{arith}
 use lib.Dec.{eqb}
 use borrow.Author.Tests.{eq-eqb, eqb-true}
-use Rattle.word.specs.declared.Anchor.{Anchor}
-use Rattle.word.specs.Anchor.{anchorOf, packAnchor}
-use Rattle.word.specs.Link.{linkOf}
-use Rattle.model.specs.{Calls.entryOf, Kinds.isPop, Sides.facing}
+use Rattle.word.specs.{declared.Anchor.Anchor, Anchor.{anchorOf, packAnchor}, Link.linkOf}
+use Rattle.model.specs.{Calls.entryOf, Kinds.isPop, Sides.facing, Tables.{Tables, atPlace, ofKind, withSeen}}
 use Rattle.model.specs.Places.{at1, at2, at3, at4, linkSide, move, new4, reading, row, sideOf}
-use Rattle.model.specs.Route.{answer, goes, onward, popRoute, pushRoute, route}
-use Rattle.model.specs.Tables.{Tables, atPlace, ofKind, withSeen}
-use Rattle.model.specs.declared.Call.{Call}
-use Rattle.model.proofs.tests.Truth.{split}
-use Rattle.model.proofs.machine.Machine as M
-use Rattle.model.proofs.bridge.Decoded.{AnchorRoom, Seen, same-touch}
+use Rattle.model.specs.{Route.{answer, goes, onward, popRoute, pushRoute, route}, declared.Call.Call}
+use Rattle.model.proofs.{tests.Truth.split, bridge.Decoded.{AnchorRoom, Seen, same-touch}}
 use Rattle.model.proofs.bridge.View.{anchorSeen, answerSeen, kindOf, linkAt, recOf, statusOf, view}
 use Rattle.model.proofs.bridge.Words.{anchor-back, link-back, same-word, stable-status}
+use Rattle.model.proofs.machine.Machine as M
 
 module _ (q : Tables) (r : Call) where
   -- At a place and of a kind: 0 push, 1 pop.

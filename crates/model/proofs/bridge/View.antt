@@ -1,18 +1,16 @@
 -- The tables, words and records as the decoded machine sees them.
-use mathlib.Core.Bool.{Bool, cond, false, true}
-use mathlib.Core.List.{List, [], _∷_}
+use mathlib.Core.{Bool.{Bool, cond, false, true}, List.{List, [], _∷_}}
 use Prim.Native.Nat.{ℕ}
-use lib.Dec.{eqb, ltb}
-use lib.ListN.{getD}
+use lib.{Dec.{eqb, ltb}, ListN.getD}
 use Rattle.word.specs.{Anchor.anchorOf, Link.linkOf}
 use Rattle.model.specs.Places as place
-use Rattle.model.specs.Tables.{Queue, Tables, isPooled, marked, recordAt}
+use Rattle.model.specs.{Tables.{Queue, Tables, isPooled, marked, recordAt}, declared.Call.Call}
 use Rattle.model.specs.declared.Answer as answer
-use Rattle.model.specs.declared.Call.{Call}
-use Rattle.model.proofs.machine.Machine.{Anchor, Answer, Kind, Link, Place, Rec, Shared, State, Status, Touch, at1, at10, at11, at12}
-use Rattle.model.proofs.machine.Machine.{at13, at14, at15, at16, at17, at2, at3, at4, at5, at6, at7, at8, at9, blank, clear, draw}
-use Rattle.model.proofs.machine.Machine.{empty, give, idle, noSlot, none, pop, popped, push, pushed, pushing, putAnchor, putHead}
-use Rattle.model.proofs.machine.Machine.{putLink, putNext, running, stable, take}
+use Rattle.model.proofs.machine.Machine.{Anchor, Answer, Kind, Link, Place, Rec, Shared, State, Status, Touch}
+use Rattle.model.proofs.machine.Machine.{at1, at10, at11, at12, at13, at14, at15, at16, at17, at2, at3, at4, at5}
+use Rattle.model.proofs.machine.Machine.{at6, at7, at8, at9, blank, clear, draw, empty, give, idle, noFreeSlot}
+use Rattle.model.proofs.machine.Machine.{none, pop, popped, push, pushed, pushing, putAnchor, putHead, putLink}
+use Rattle.model.proofs.machine.Machine.{putNext, running, stable, take}
 
 abbrev pub statusOf : ℕ → Status
 statusOf n = cond (eqb n 1) (pushing true) (cond (eqb n 2) (pushing false) stable)
@@ -71,7 +69,7 @@ answerSeen (answer.the-variants.Running p) = running
 answerSeen answer.the-variants.Pushed = pushed
 answerSeen answer.the-variants.Empty = empty
 answerSeen (answer.the-variants.Popped e) = popped (e .slot) (e .label)
-answerSeen answer.the-variants.NoFreeSlot = noSlot
+answerSeen answer.the-variants.NoFreeSlot = noFreeSlot
 
 abbrev pub touchSeen : place.Touch → Touch
 touchSeen place.nothing = none

@@ -1,18 +1,15 @@
 -- Equal words are equal decoded, and the other way round where they are sound; a packed word decodes to its fields.
-use mathlib.Core.Bool.{true}
-use mathlib.Core.Path.{_∙_, _≡_, ap, refl, subst, sym}
+use mathlib.Core.{Bool.true, Path.{_∙_, _≡_, ap, refl, subst, sym}}
 use Prim.Native.Nat.{_%_, _*_, _+_, _/_, _<_, _^_, _≤_, suc, zero, ℕ}
 use native.Mathlib.Omega.{arith}
 use lib.Dec.{eqb}
 use borrow.Author.Tests.{eq-eqb, eqb-true}
 use Rattle.word.proofs.Laws.{AnchorFits, pack-fits, same-anchor, same-link, word-fields}
-use Rattle.word.specs.Anchor.{anchorOf, anchorWord, packAnchor}
-use Rattle.word.specs.Link.{linkOf, linkWord, packLink, spareOf}
+use Rattle.word.specs.{Anchor.{anchorOf, anchorWord, packAnchor}, Link.{linkOf, linkWord, packLink, spareOf}}
 use Rattle.word.specs.declared.Anchor as word
-use Rattle.model.proofs.tests.Truth.{agree, split}
+use Rattle.model.proofs.{tests.Truth.{agree, split}, bridge.View.{anchorSeen, linkSeen, statusOf}}
 use Rattle.model.proofs.machine.Laws.{same-refl, same-true, sameLink-refl, sameLink-true}
 use Rattle.model.proofs.machine.Machine.{Anchor, Link, code, isStable, same, sameLink, towards}
-use Rattle.model.proofs.bridge.View.{anchorSeen, linkSeen, statusOf}
 
 code-status : (n : ℕ) → n ≤ 2 → code (statusOf n) ≡ n
 code-status zero h = refl

@@ -1,15 +1,9 @@
 -- A push or a pop at an end keeps the shape: of two or more entries (place 4), of none or one (place 2).
-use mathlib.Core.Bool.{Bool, false, not, true}
-use mathlib.Core.List.{List, [], _∷_}
-use mathlib.Core.Logic.{_≢_}
-use mathlib.Core.Path.{_∙_, _≡_, ap, refl}
+use mathlib.Core.{Bool.{Bool, false, not, true}, List.{List, [], _∷_}, Logic._≢_, Path.{_∙_, _≡_, ap, refl}}
 use Prim.Native.Nat.{ℕ}
-use Rattle.model.proofs.lists.All.{all-seen}
-use Rattle.model.proofs.lists.Deque.{put, rest, seen, took}
-use Rattle.model.proofs.lists.Ends.{far-cons, seen-seen}
-use Rattle.model.proofs.machine.Laws.{aimed-far, aimed-near, aimed-status, alike}
+use Rattle.model.proofs.lists.{All.all-seen, Deque.{put, rest, seen, took}, Ends.{far-cons, seen-seen}}
+use Rattle.model.proofs.{machine.Laws.{aimed-far, aimed-near, aimed-status, alike}, invariant.Shape.Shape}
 use Rattle.model.proofs.machine.Machine.{Anchor, Link, aimed, both, pushing, stable, tip}
-use Rattle.model.proofs.invariant.Shape.{Shape}
 use Rattle.model.proofs.chain.Ends.{no-entry, single, small}
 use Rattle.model.proofs.chain.Sides.{apart, chain, far, make, near, nonzero, under, unturn}
 use Rattle.model.specs.Lists.{All}

@@ -1,16 +1,10 @@
 -- What the ends of Anchor tell: null, equal, and the status of a short queue.
-use mathlib.Core.Bool.{Bool, false, true}
-use mathlib.Core.List.{List, [], _∷_}
-use mathlib.Core.Logic.{_≢_, _⊎_, inl, inr}
+use mathlib.Core.{Bool.{Bool, false, true}, List.{List, [], _∷_}, Logic.{_≢_, _⊎_, inl, inr}}
 use mathlib.Core.Path.{_∙_, _≡_, ap, refl, sym}
 use Prim.Native.Nat.{ℕ}
-use Rattle.model.proofs.tests.Truth.{decide-eq}
-use Rattle.model.proofs.lists.All.{all-far}
-use Rattle.model.proofs.lists.Deque.{front, rest, seen}
-use Rattle.model.proofs.lists.Ends.{far-cons, seen-nil, seen-seen}
-use Rattle.model.proofs.machine.Machine.{Anchor, Link, Status, pushing, stable, tip}
-use Rattle.model.proofs.invariant.Shape.{Linked, Shape}
-use Rattle.model.proofs.chain.Sides.{apart, far, near, nonzero}
+use Rattle.model.proofs.{tests.Truth.decide-eq, machine.Machine.{Anchor, Link, Status, pushing, stable, tip}}
+use Rattle.model.proofs.lists.{All.all-far, Deque.{front, rest, seen}, Ends.{far-cons, seen-nil, seen-seen}}
+use Rattle.model.proofs.{invariant.Shape.{Linked, Shape}, chain.Sides.{apart, far, near, nonzero}}
 
 module _ (k : Bool → ℕ → Link) (a : Anchor) (q : List ℕ) (s : Shape k a q) where
   pub no-entry : a .left ≡ 0 → q ≡ []

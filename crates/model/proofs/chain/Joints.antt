@@ -1,11 +1,8 @@
 -- Two neighbours anywhere in the linked queue.
-use mathlib.Core.Bool.{Bool, false, not, true}
+use mathlib.Core.{Bool.{Bool, false, not, true}, Logic._≢_, Path.{_∙_, _≡_, ap, refl, sym}}
 use mathlib.Core.List.{List, [], _++_, _∷_, append-assoc, reverse, reverse-append, reverse-cons, reverse-reverse}
-use mathlib.Core.Logic.{_≢_}
-use mathlib.Core.Path.{_∙_, _≡_, ap, refl, sym}
 use Prim.Native.Nat.{ℕ}
-use Rattle.model.proofs.lists.Deque.{Chain}
-use Rattle.model.proofs.machine.Machine.{Link, Status, pushing, stable}
+use Rattle.model.proofs.{lists.Deque.Chain, machine.Machine.{Link, Status, pushing, stable}}
 use Rattle.model.proofs.invariant.Shape.{Joint, Linked, Rough}
 
 chain-at : {A : Type 0} (P : A → A → Type 0) (b a : List A) (x y : A) → Chain P (b ++ (x ∷ y ∷ a)) → P x y

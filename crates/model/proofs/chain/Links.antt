@@ -1,12 +1,7 @@
 -- A link made keeps the shape (place 9), with it the queue is stable (place 10), and a slot outside the queue is free to change (place 3).
-use mathlib.Core.Bool.{Bool, false, not, true}
-use mathlib.Core.List.{List, [], _∷_}
-use mathlib.Core.Logic.{_≢_}
-use mathlib.Core.Path.{_∙_, _≡_, ap, refl}
+use mathlib.Core.{Bool.{Bool, false, not, true}, List.{List, [], _∷_}, Logic._≢_, Path.{_∙_, _≡_, ap, refl}}
 use Prim.Native.Nat.{ℕ}
-use Rattle.model.proofs.lists.All.{all-seen}
-use Rattle.model.proofs.lists.Chain.{chain-map, from-map, from-next}
-use Rattle.model.proofs.lists.Deque.{Chain, seen}
+use Rattle.model.proofs.lists.{All.all-seen, Chain.{chain-map, from-map, from-next}, Deque.{Chain, seen}}
 use Rattle.model.proofs.machine.Laws.{relink-across, relink-other}
 use Rattle.model.proofs.machine.Machine.{Anchor, Link, Status, pushing, relink, settled, stable, tip}
 use Rattle.model.proofs.invariant.Shape.{Joint, Linked, Rough, Shape}

@@ -1,10 +1,7 @@
 -- The linked queue seen from a side: its ends, its chain, and a shape made from there.
-use mathlib.Core.Bool.{Bool, false, not, true}
-use mathlib.Core.List.{List, reverse, reverse-reverse}
-use mathlib.Core.{Logic._≢_, Path._≡_}
+use mathlib.Core.{Bool.{Bool, false, not, true}, List.{List, reverse, reverse-reverse}, Logic._≢_, Path._≡_}
 use Prim.Native.Nat.{ℕ}
-use Rattle.model.proofs.lists.{All.all-seen, Ends.seen-not}
-use Rattle.model.proofs.lists.Chain.{chain-reverse, distinct-seen}
+use Rattle.model.proofs.lists.{All.all-seen, Ends.seen-not, Chain.{chain-reverse, distinct-seen}}
 use Rattle.model.proofs.lists.Deque.{Chain, Distinct, front, seen}
 use Rattle.model.proofs.machine.Machine.{Anchor, Link, Status, pushing, stable, tip}
 use Rattle.model.proofs.invariant.Shape.{Joint, Linked, Rough, Shape}

@@ -1,7 +1,7 @@
 -- What else holds of a record's fields at its place, so that no test of soundness fails.
-use mathlib.Core.Bool.{false, true}
-use mathlib.Core.{Logic._≢_, Path._≡_}
-use Rattle.model.proofs.machine.Machine.{Phase, Place, Rec, beside, fetching, returning, inside, phase, pop, push, outside, leaving, tip}
+use mathlib.Core.{Bool.{false, true}, Logic._≢_, Path._≡_}
+use Rattle.model.proofs.machine.Machine.{Phase, Place, Rec, beside, fetching, returning, inside, phase, pop, tip}
+use Rattle.model.proofs.machine.Machine.{push, outside, leaving}
 
 -- At 1 to 10 only a push is finishing, and only a push has a slot of its own.
 abbrev pub Only : Rec → Type 0

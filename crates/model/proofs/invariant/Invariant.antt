@@ -1,9 +1,7 @@
 -- The invariant of the decoded machine and the book side by side.
 use mathlib.Core.Path.{_≡_}
 use Prim.Native.Nat.{_≤_, ℕ}
-use Rattle.model.proofs.machine.Book.{Both, Honoured}
-use Rattle.model.proofs.invariant.Owners.{Owner, Intact, shows}
-use Rattle.model.proofs.invariant.Tasks.{Task}
+use Rattle.model.proofs.{machine.Book.{Both, Honoured}, invariant.{Owners.{Owner, Intact, shows}, Tasks.Task}}
 use Rattle.model.specs.Lists.{All}
 
 pub record Inv (p : Both) : Type 0 where

@@ -1,13 +1,9 @@
 -- Who has a slot. One owner a slot says at once that no two tasks have the same one, and that none of theirs is queued.
-use mathlib.Core.Bool.{Bool, false, not, true}
-use mathlib.Core.List.{List, [], _∷_}
-use mathlib.Core.{Logic._≢_, Path._≡_}
+use mathlib.Core.{Bool.{Bool, false, not, true}, List.{List, [], _∷_}, Logic._≢_, Path._≡_}
 use Prim.Native.Nat.{_≤_, ℕ}
-use Rattle.model.specs.declared.Entry.{Entry}
-use Rattle.model.proofs.lists.{Deque.Distinct, In.In, Slots.slots}
-use Rattle.model.proofs.machine.Machine.{Rec, Shared, isGiving}
+use Rattle.model.specs.{declared.Entry.Entry, Lists.All}
+use Rattle.model.proofs.{lists.{Deque.Distinct, In.In, Slots.slots}, machine.Machine.{Rec, Shared, isGiving}}
 use Rattle.model.proofs.invariant.Shape.{Shape}
-use Rattle.model.specs.Lists.{All}
 
 -- Nobody, the queue, or a task: a push before its effect, a pop after it.
 pub data Owner : Type 0 where

@@ -1,11 +1,9 @@
 -- What a step of one task leaves to another, u: its own slots, links' tags that only grow, an Anchor that is kept or has turned
 -- to a higher tag, which it does only when the link back is made, and a head of the stack that is kept or has a higher tag.
-use mathlib.Core.Bool.{Bool, not}
-use mathlib.Core.{Logic._⊎_, Path._≡_}
+use mathlib.Core.{Bool.{Bool, not}, Logic._⊎_, Path._≡_}
 use Prim.Native.Nat.{_<_, _≤_, ℕ}
 use Rattle.model.proofs.machine.Machine.{Shared, Status, pushing, stable, tip}
-use Rattle.model.proofs.invariant.Owners.{Owner, held, queued}
-use Rattle.model.proofs.invariant.Shape.{Made}
+use Rattle.model.proofs.invariant.{Owners.{Owner, held, queued}, Shape.Made}
 
 abbrev pub Faces : Status → Bool → Type 0
 Faces st e = (st ≡ stable) ⊎ (st ≡ pushing e)

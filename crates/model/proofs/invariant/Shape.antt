@@ -1,7 +1,5 @@
 -- The linked queue. Q is the list of its slots from left to right; k is the link table, k d x the link of slot x that leads to side d.
-use mathlib.Core.Bool.{Bool, false, not}
-use mathlib.Core.List.{List, [], _∷_}
-use mathlib.Core.{Logic._≢_, Path._≡_}
+use mathlib.Core.{Bool.{Bool, false, not}, List.{List, [], _∷_}, Logic._≢_, Path._≡_}
 use Prim.Native.Nat.{ℕ}
 use Rattle.model.proofs.lists.Deque.{Chain, Distinct, From, front, seen}
 use Rattle.model.proofs.machine.Machine.{Anchor, Link, Status, pushing, stable, tip}

@@ -1,10 +1,8 @@
 -- The tag part of the invariant. (It serves the claim that 34 never occurs; linearizability needs no bound on tags.)
-use mathlib.Core.Bool.{Bool, cond, false, true}
-use mathlib.Core.{Logic._⊎_, Path._≡_}
+use mathlib.Core.{Bool.{Bool, cond, false, true}, Logic._⊎_, Path._≡_}
 use Prim.Native.Nat.{_+_, _<_, _≤_, ℕ}
-use Rattle.model.proofs.machine.Machine.{Kind, Phase, Rec, Shared, Status, fetching, returning, inside, phase, pop, push, pushing, outside}
-use Rattle.model.proofs.machine.Machine.{stable, leaving}
-use Rattle.model.proofs.invariant.Shape.{Made}
+use Rattle.model.proofs.machine.Machine.{Kind, Phase, Rec, Shared, Status, fetching, returning, inside, phase}
+use Rattle.model.proofs.{machine.Machine.{pop, push, pushing, outside, stable, leaving}, invariant.Shape.Made}
 
 -- (3) Each link's tag is at most Anchor's; while the link back is not made, the tags of that side are below it.
 pub record Tags (s : Shared) : Type 0 where

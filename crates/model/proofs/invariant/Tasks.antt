@@ -1,16 +1,13 @@
 -- What holds of a busy task's record, by its place. In the comments A is the Anchor as read, `current` means that it is Anchor,
 -- e is its end at the side that matters, and the numbers are the lines of docs/PROOF.md.
 -- Each fact names the fields that it speaks of and not the record, so that it stands unchanged where another field changes.
-use mathlib.Core.Bool.{Bool, false, true}
-use mathlib.Core.Logic.{_≢_, _⊎_}
-use mathlib.Core.Path.{_≡_}
+use mathlib.Core.{Bool.{Bool, false, true}, Logic.{_≢_, _⊎_}, Path._≡_}
 use Prim.Native.Nat.{_<_, _≤_, ℕ}
-use Rattle.model.proofs.machine.Book.{BookCall}
-use Rattle.model.proofs.machine.Machine.{Anchor, Answer, Draw, Give, Kind, Link, Place, Rec, Shared, at1, at10, at11, at12, at13}
-use Rattle.model.proofs.machine.Machine.{at14, at15, at16, at17, at2, at3, at4, at5, at6, at7, at8, at9, draw, give, idle, inner}
-use Rattle.model.proofs.machine.Machine.{pop, popped, push, pushed, pushing, stable, tip, towards}
-use Rattle.model.proofs.invariant.Owners.{Owner, held}
-use Rattle.model.proofs.invariant.Shape.{Made}
+use Rattle.model.proofs.machine.{Book.BookCall, Machine.{stable, tip, towards}}
+use Rattle.model.proofs.machine.Machine.{Anchor, Answer, Draw, Give, Kind, Link, Place, Rec, Shared, at1, at10}
+use Rattle.model.proofs.machine.Machine.{at11, at12, at13, at14, at15, at16, at17, at2, at3, at4, at5, at6, at7}
+use Rattle.model.proofs.machine.Machine.{at8, at9, draw, give, idle, inner, pop, popped, push, pushed, pushing}
+use Rattle.model.proofs.invariant.{Owners.{Owner, held}, Shape.Made}
 
 -- The call is the one that the record works at: kind, side, slot and label are as its start named them.
 pub record Agrees (k : Kind) (d : Bool) (x l : ℕ) (c : BookCall) : Type 0 where
@@ -69,7 +66,7 @@ Four pop s d x a n = a ≡ s .anchor → inner s d (tip a d) ≡ n
 
 -- Places 2 to 4.
 pub record Tries (g : ℕ → ℕ) (b : Anchor) (h : ℕ → Owner) (t : ℕ) (f : Bool) (k : Kind) (d : Bool) (x l : ℕ) (a : Anchor) (c : BookCall) : Type 0 where
-  pub early : f ≡ false
+  pub unfinished : f ≡ false
   pub before : Before g h t k d x l c
   pub read : Read b a
 
@@ -116,14 +113,14 @@ pub record At9 (s : Shared) (a : Anchor) (n : ℕ) (w : Link) : Type 0 where
   pub chance : Live s a n w ⊎ Grown s a n w
 
 -- (8) Place 11: the pop owns the end that it took, and its row has the label that the sequential deque replied.
-pub record Eleventh (g : ℕ → ℕ) (h : ℕ → Owner) (t x : ℕ) (c : BookCall) : Type 0 where
+pub record At11 (g : ℕ → ℕ) (h : ℕ → Owner) (t x : ℕ) (c : BookCall) : Type 0 where
   pub after : After c (popped x (g x))
   pub holds : h x ≡ held t
   pub sole : Sole h t x
 
 -- Places 12 to 14: a push that has no slot yet.
 pub record Draws (h : ℕ → Owner) (t : ℕ) (f : Bool) (k : Kind) (d : Bool) (x l : ℕ) (c : BookCall) : Type 0 where
-  pub early : f ≡ false
+  pub unfinished : f ≡ false
   pub kind : k ≡ push
   pub agrees : Agrees k d x l c
   pub none : c .effects ≡ 0
@@ -176,6 +173,6 @@ Task at7 s h t r c = Helping s h t r c × (r .read ≡ s .anchor → Near s (r .
 Task at8 s h t r c = Helping s h t r c × At8 s (r .read) (r .near) (r .link)
 Task at9 s h t r c = Helping s h t r c × At9 s (r .read) (r .near) (r .link)
 Task at10 s h t r c = Helping s h t r c × (r .read ≡ s .anchor → Made (s .link) (r .read) (way (r .read)))
-Task at11 s h t r c = Eleventh (s .label) h t (tip (r .read) (r .side)) c
+Task at11 s h t r c = At11 (s .label) h t (tip (r .read) (r .side)) c
 Task (draw p) s h t r c = (s .pooled ≡ true) × Draws h t (r .finishing) (r .kind) (r .side) (r .own) (r .label) c × Drawing p s r
 Task (give p) s h t r c = (s .pooled ≡ true) × Gives h t (r .own) (r .label) c × Giving p s r

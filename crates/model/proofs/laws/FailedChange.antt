@@ -1,20 +1,13 @@
 -- A change that fails at 2 or 4 reads Anchor as place 1 would, all in the same step, and is counted. (Document 02: #106.)
-use mathlib.Core.Path.{_≡_, sym, subst}
-use mathlib.Core.Bool.{true, false}
-use mathlib.Core.Logic.{_⊎_, inl, inr}
+use mathlib.Core.{Path.{_≡_, sym, subst}, Bool.{true, false}, Logic.{_⊎_, inl, inr}}
 use Prim.Native.Nat.{ℕ}
 use lib.Dec.{eqb}
 use Rattle.word.specs.Anchor.{anchorOf}
-use Rattle.model.specs.declared.{Call.Call, Record.Record}
-use Rattle.model.specs.Tables.{Tables, isPooled, atPlace, withCall}
-use Rattle.model.specs.Sound.{controlSound, recordSound, rowsFit}
-use Rattle.model.specs.Places.{sideOf, row, reading, at1, at2, at4, move}
-use Rattle.model.specs.Route.{counted, goes}
+use Rattle.model.specs.{declared.{Call.Call, Record.Record}, Tables.{Tables, isPooled, atPlace, withCall}}
+use Rattle.model.specs.{Sound.{controlSound, recordSound, rowsFit}, Route.{counted, goes}, Calls.{finish, step}}
+use Rattle.model.specs.{Places.{sideOf, row, reading, at1, at2, at4, move}, Kinds.isPop}
 use Rattle.model.specs.Refusals.{Lent, stepSound, stepRefusal}
-use Rattle.model.specs.Calls.{finish, step}
-use Rattle.model.proofs.tests.Truth.{split}
-use Rattle.model.proofs.laws.Onward.{reads-on}
-use Rattle.model.specs.Kinds.{isPop}
+use Rattle.model.proofs.{tests.Truth.split, laws.Onward.reads-on}
 
 module _ (q : Tables) (p : Lent) (t : Record) where
   abbrev r : Call

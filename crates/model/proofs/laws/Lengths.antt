@@ -1,24 +1,18 @@
 -- No call changes the length of a table.
-use mathlib.Core.Path.{_≡_, refl}
-use mathlib.Core.Bool.{Bool, true, false, _||_, not, cond}
-use mathlib.Core.List.{List}
+use mathlib.Core.{Path.{_≡_, refl}, Bool.{Bool, true, false, _||_, not, cond}, List.List}
 use Prim.Native.Nat.{ℕ, _+_, _/_, _≤_}
 use native.Mathlib.Omega.{arith}
-use lib.Dec.{eqb, leb, ltb}
-use lib.ListN.{length, set, length-set, length-append, length-replicate, length-drop}
+use lib.{Dec.{eqb, leb, ltb}, ListN.{length, set, length-set, length-append, length-replicate, length-drop}}
 use borrow.Author.Tests.{leb-true, ltb-true, not-false}
-use Rattle.model.specs.declared.{Record.Record, Op.Op}
-use Rattle.model.specs.declared.Op.the-variants.{Push, Pop, PushPooled, Step}
-use Rattle.model.specs.Tables.{tablesOf, Tables, Queue, unused, taskAt}
-use Rattle.model.specs.Sound.{rowTests, rowsFit}
-use Rattle.model.specs.Places.{Touch, nothing, setAnchor, setLink, clearMark, takeSlot, setNext, setHead, wordFound, move, apply}
-use Rattle.model.specs.Refusals.{Lent, among, alone, openRules, stepRefusal, pushRefusal, putRefusal, popRefusal}
-use Rattle.model.specs.Calls.{stacked, opened, OpenDone, openAs, Acted, decide, pushStart, putStart, popStart, finish, step, actOn, act, stepLent}
-use Rattle.model.proofs.lists.Range.{length-climb}
-use Rattle.model.proofs.tests.Truth.{either, and-true}
-use Rattle.model.proofs.tests.Rules.{tests}
+use Rattle.model.specs.declared.{Record.Record, Op.{Op, the-variants.{Push, Pop, PushPooled, Step}}}
+use Rattle.model.specs.{Tables.{tablesOf, Tables, Queue, unused, taskAt}, Sound.{rowTests, rowsFit}, Lists.zeroed}
+use Rattle.model.specs.Places.{Touch, nothing, setAnchor, setLink, clearMark, takeSlot, setNext, setHead, move}
+use Rattle.model.specs.{Places.{wordFound, apply}, Refusals.popRefusal}
+use Rattle.model.specs.Refusals.{Lent, among, alone, openRules, stepRefusal, pushRefusal, pushPooledRefusal}
+use Rattle.model.specs.Calls.{stacked, opened, OpenDone, openAs, Acted, decide, pushStart, pushPooledStart, step}
+use Rattle.model.specs.Calls.{popStart, finish, actOn, act, stepLent}
+use Rattle.model.proofs.{lists.Range.length-climb, tests.{Truth.{either, and-true}, Rules.tests}}
 use Rattle.model.proofs.laws.Refusals.{OpenDecided, accepted-opening, refused-opening, open-decided}
-use Rattle.model.specs.Lists.{zeroed}
 
 pub record Lengths : Type 0 where
   pub lefts : ℕ
@@ -58,10 +52,10 @@ settled : (why : ℕ) (q : Tables) (r : Record) (done : Acted) → lengths (done
 settled why q r done e = either (λ (a : Acted). lengths (a .tables) ≡ lengths q) (eqb why 0) e refl
 
 act-on : (q : Tables) (p : Lent) (r : Record) (o : Op) → lengths (actOn q p r o .tables) ≡ lengths q
-unfolding actOn pushStart putStart popStart step finish
+unfolding actOn pushStart pushPooledStart popStart step finish
 act-on q p r (Push side slot label) = settled (pushRefusal q p (r .call) side slot) q r _ (simp length-set)
 act-on q p r (Pop side) = settled (popRefusal q p (r .call) side) q r _ refl
-act-on q p r (PushPooled side label) = settled (putRefusal q p (r .call) side) q r _ refl
+act-on q p r (PushPooled side label) = settled (pushPooledRefusal q p (r .call) side) q r _ refl
 act-on q p r Step = settled (stepRefusal q p (r .call)) q r _ (touched (move (q .control) (r .call) (wordFound q (r .call)) .touch) _)
 
 -- The laws.

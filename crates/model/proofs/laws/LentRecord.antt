@@ -2,14 +2,10 @@
 use mathlib.Core.Path.{_≡_, ap₂, _∙_}
 use Prim.Native.Nat.{ℕ, _≤_, _<_}
 use native.Mathlib.Omega.{arith}
-use lib.ListN.{length, set, length-set}
-use lib.Seq.{set-set, getD-set-same}
+use lib.{ListN.{length, set, length-set}, Seq.{set-set, getD-set-same}}
 use borrow.Author.Tests.{lt-ltb, le-leb}
-use Rattle.model.specs.declared.Record.{Record}
-use Rattle.model.specs.declared.Op.the-variants.{Step}
-use Rattle.model.specs.Tables.{Queue, unused, taskAt}
-use Rattle.model.specs.Refusals.{Lent, among, alone}
-use Rattle.model.specs.Calls.{Acted, step, actOn, back, act, stepLent}
+use Rattle.model.specs.{declared.{Record.Record, Op.the-variants.Step}, Tables.{Queue, unused, taskAt}}
+use Rattle.model.specs.{Refusals.{Lent, among, alone}, Calls.{Acted, step, actOn, back, act, stepLent}}
 
 -- The queue with a record as the row of task t.
 abbrev pub withRow : Queue → ℕ → Record → Queue

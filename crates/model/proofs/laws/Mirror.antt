@@ -6,28 +6,22 @@ pub mod Sound
 pub mod Moves
 pub mod Steps
 pub mod Twice
-use mathlib.Core.Path.{_≡_, refl, ap, ap₂, _∙_}
-use mathlib.Core.Bool.{Bool, true, false, cond}
-use mathlib.Core.List.{List, [], _∷_, _++_, map}
+use mathlib.Core.{Path.{_≡_, refl, ap, ap₂, _∙_}, Bool.{Bool, true, false, cond}, List.{List, [], _∷_, _++_, map}}
 use Prim.Native.Nat.{ℕ, zero, suc}
 use native.Mathlib.Omega.{arith}
-use lib.Dec.{eqb, leb, ltb}
-use lib.ListN.{set, drop, replicate, length-map, List·getD-map}
+use lib.{Dec.{eqb, leb, ltb}, ListN.{set, drop, replicate, length-map, List·getD-map}}
 use Rattle.word.specs.Anchor.{emptyAnchor}
-use Rattle.model.specs.declared.{Call.Call, Record.Record, Op.Op, Asked.Asked}
-use Rattle.model.specs.declared.Answer.the-variants.{Running}
-use Rattle.model.specs.declared.Outcome.the-variants.{Moved}
-use Rattle.model.specs.declared.Opening.the-variants as opening
-use Rattle.model.specs.declared.Op.the-variants.{Push, Pop, PushPooled, Step}
+use Rattle.model.specs.declared.{Call.Call, Record.Record, Op.{Op, the-variants.{Push, Pop, PushPooled, Step}}}
+use Rattle.model.specs.declared.{Asked.Asked, Answer.the-variants.Running, Outcome.the-variants.Moved}
 use Rattle.model.specs.Tables.{Tables, Queue, asking, started, taskAt, unused, withAnchor, withCall, withTaken}
-use Rattle.model.specs.Refusals.{openRefusal, Lent, among, alone, fits, startRefusal, namedPush, pooledPush, nothingAsked}
-use Rattle.model.specs.Calls.{opened, OpenDone, openAs, Acted, decide, pushStart, putStart, popStart, actOn, back, act, stepLent}
-use Rattle.model.specs.Mirror.{mirrorSide, mirrorStatus, mirrorWord, mirrorControl, mirrorTables, mirrorRecord, mirrorTask, mirrorQueue, mirrorOp}
-use Rattle.model.specs.Mirror.{mirrorActed, mirrorOpened, mirrorDone, Mirrored}
-use Rattle.model.proofs.laws.Mirror.{Packed.mirror-pack, Twice.mirror-twice}
+use Rattle.model.specs.Refusals.{openRefusal, Lent, among, alone, fits, startRefusal, namedPush, pooledPush}
+use Rattle.model.specs.{Refusals.nothingAsked, Calls.{actOn, act, stepLent}, Lists.zeroed}
+use Rattle.model.specs.Calls.{opened, OpenDone, openAs, Acted, decide, pushStart, pushPooledStart, popStart, back}
+use Rattle.model.specs.Mirror.{mirrorSide, mirrorStatus, mirrorWord, mirrorControl, mirrorTables, mirrorRecord}
+use Rattle.model.specs.Mirror.{mirrorTask, mirrorQueue, mirrorOp, mirrorActed, mirrorOpened, mirrorDone, Mirrored}
+use Rattle.model.specs.declared.Opening.the-variants as opening
+use Rattle.model.proofs.laws.Mirror.{Packed.mirror-pack, Twice.mirror-twice, Steps.{decide-mirror, step-mirror}}
 use Rattle.model.proofs.laws.Mirror.Sound.{rows-fit-mirror, start-refusal-mirror}
-use Rattle.model.proofs.laws.Mirror.Steps.{decide-mirror, step-mirror}
-use Rattle.model.specs.Lists.{zeroed}
 
 -- A start or step of one record.
 abbrev starts : Tables → Record → ℕ → Call → Acted
@@ -44,7 +38,7 @@ start-mirror q t p r side first a call mirrored e =
     ∙ decide-mirror (startRefusal (q .control) (fits q) p (r .call) side a) q r (starts t r first call) (done mirrored) (λ _. ap done e)
 
 act-on-mirror : (q : Tables) (p : Lent) (r : Record) (o : Op) → actOn (mirrorTables q) p (mirrorTask r) (mirrorOp o) ≡ mirrorActed (actOn q p r o)
-unfolding actOn pushStart putStart popStart mirrorRecord mirrorWord mirrorStatus
+unfolding actOn pushStart pushPooledStart popStart mirrorRecord mirrorWord mirrorStatus
 act-on-mirror q p r (Push side slot label) =
     start-mirror q (withTaken q slot label) p r side 1 (namedPush q slot) (started 0 side slot label) (started 0 (mirrorSide side) slot label) refl
 act-on-mirror q p r (Pop side) = start-mirror q q p r side 1 nothingAsked (started 1 side 0 0) (started 1 (mirrorSide side) 0 0) refl

@@ -1,18 +1,14 @@
 -- A step changes one shared word at the most; where a failed change is counted, in the task's own record, none.
 -- The one exception is 14 done, which sets the head, the slot's label and its mark.
-use mathlib.Core.Logic.{_⊎_, inl, inr}
-use mathlib.Core.Path.{_≡_, refl, subst, sym}
-use mathlib.Core.Bool.{false}
+use mathlib.Core.{Logic.{_⊎_, inl, inr}, Path.{_≡_, refl, subst, sym}, Bool.false}
 use Prim.Native.Nat.{ℕ}
 use lib.{Dec.eqb, Seq.getD-set-other}
 use borrow.Author.Tests.{eqb-true}
-use Rattle.model.specs.declared.{Control.Control, Call.Call, Record.Record, Op.Op}
-use Rattle.model.specs.declared.Op.the-variants.{Step}
-use Rattle.model.specs.Tables.{Tables, Queue, isPooled, recordAt, taskAt, unused}
-use Rattle.model.specs.Places.{Touch, nothing, setAnchor, setLink, clearMark, takeSlot, setNext, setHead, Move, wordFound, move, apply}
-use Rattle.model.specs.Places.{at1, at2, at3, at4, at5, at6, at7, at9, at10, at11, at12, at13, at14, at15, at16, at17}
-use Rattle.model.specs.{Route.counted, Kinds.isPush}
-use Rattle.model.specs.Refusals.{Lent, among, alone, stepRefusal}
+use Rattle.model.specs.declared.{Control.Control, Call.Call, Record.Record, Op.{Op, the-variants.Step}}
+use Rattle.model.specs.{Tables.{Tables, Queue, isPooled, recordAt, taskAt, unused}, Route.counted, Kinds.isPush}
+use Rattle.model.specs.Places.{Touch, nothing, setAnchor, setLink, clearMark, takeSlot, setNext, setHead, Move}
+use Rattle.model.specs.Places.{wordFound, move, apply, at1, at2, at3, at4, at5, at6, at7, at9, at10, at11, at12}
+use Rattle.model.specs.{Places.{at13, at14, at15, at16, at17}, Refusals.{Lent, among, alone, stepRefusal}}
 use Rattle.model.specs.Calls.{Acted, finish, step, actOn, act, stepLent}
 use Rattle.model.specs.OneTouch.{TouchesOnce, OneTouch, untouched, anchor, link, mark, next, head, drawn}
 use Rattle.model.proofs.tests.Truth.{either, by-test}

@@ -1,24 +1,16 @@
 -- A step of a busy, sound record leads on: to a place other than 0, or to an answer.
-use mathlib.Core.Path.{_≡_, refl, sym, subst}
-use mathlib.Core.Bool.{Bool, true, false, _&&_, _||_, cond}
-use mathlib.Core.List.{List, []}
+use mathlib.Core.{Path.{_≡_, refl, sym, subst}, Bool.{Bool, true, false, _&&_, _||_, cond}, List.{List, []}}
 use Prim.Native.Nat.{ℕ, _+_, zero, suc}
 use native.Mathlib.Omega.{arith}
-use lib.Dec.{eqb, leb}
-use lib.ListN.{getD}
+use lib.{Dec.{eqb, leb}, ListN.getD}
 use borrow.Author.Tests.{eqb-true, eqb-false, leb-true}
-use Rattle.word.specs.declared.Anchor.{Anchor}
-use Rattle.word.specs.{Anchor.anchorOf, Link.linkOf}
-use Rattle.model.specs.declared.{Control.Control, Call.Call}
-use Rattle.model.specs.Tables.{atPlace, isPooled}
-use Rattle.model.specs.{Sound.recordSound, Sides.isEmpty}
-use Rattle.model.specs.Places.{Move, endSeen, reading, at1, at2, at3, at4, at5, at6, at7, at9, at10, at11, at12, at13, at14, at15, at16, at17, move}
-use Rattle.model.specs.Places.{noneLeft}
-use Rattle.model.specs.Route.{leave, pushed, pushRoute, popRoute, route, onward}
-use Rattle.model.proofs.tests.ByPlace.{by-place}
-use Rattle.model.proofs.tests.Truth.{either, by-test}
+use Rattle.word.specs.{declared.Anchor.Anchor, Anchor.anchorOf, Link.linkOf}
+use Rattle.model.specs.{declared.{Control.Control, Call.Call}, Tables.{atPlace, isPooled}, Sound.recordSound}
+use Rattle.model.specs.{Sides.isEmpty, Places.{at13, at14, at15, at16, at17, move, stackEmpty}}
+use Rattle.model.specs.Places.{Move, endSeen, reading, at1, at2, at3, at4, at5, at6, at7, at9, at10, at11, at12}
+use Rattle.model.specs.{Route.{leave, pushed, pushRoute, popRoute, route, onward}, Kinds.{isPush, isPop}}
+use Rattle.model.proofs.tests.{ByPlace.by-place, Truth.{either, by-test}}
 use Rattle.model.proofs.laws.SoundRecord.{implied, Sound, sound-record}
-use Rattle.model.specs.Kinds.{isPush, isPop}
 
 abbrev Leads : ℕ → ℕ → ℕ → Type 0
 Leads place kind outcome = eqb (route place kind outcome) 0 ≡ false
@@ -97,7 +89,7 @@ module _ (c : Control) (r : Call) (w : ℕ) (kind : leb (r .kind) 1 ≡ true) wh
       (λ _ _. either (K 9) (eqb w (r .link)) (from (entry 9 0 refl refl)) (from (entry 9 1 refl refl)))
       (λ _ _. either (K 10) (eqb (c .anchor) (r .seen)) (from (entry 10 0 refl refl)) (from (entry 10 1 refl refl)))
       (λ e _. either (K 11) (isPooled c) (from (pops 11 1 (e refl) refl)) (from (pops 11 0 (e refl) refl)))
-      (λ _ e. from (either (Leads 12 (r .kind)) (noneLeft (c .head)) (pushes 12 0 (e refl) refl) (pushes 12 1 (e refl) refl)))
+      (λ _ e. from (either (Leads 12 (r .kind)) (stackEmpty (c .head)) (pushes 12 0 (e refl) refl) (pushes 12 1 (e refl) refl)))
       (λ _ e. from (pushes 13 0 (e refl) refl))
       (λ _ e. either (K 14) (eqb (c .head) (r .link)) (from (pushes 14 0 (e refl) refl)) (from (pushes 14 1 (e refl) refl)))
       (λ e _. from (pops 15 0 (e refl) refl))

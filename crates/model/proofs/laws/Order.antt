@@ -1,12 +1,10 @@
 -- The numbers of each call's refusals, in their order, whatever the tables and arguments. (Document 01: Refused .., "Order when opening: 10, 11, 12.
 -- Otherwise: ..", and the run file's 16; document 02, #102 and #104.)
-use mathlib.Core.Path.{_≡_, refl}
-use mathlib.Core.Bool.{Bool, false}
-use mathlib.Core.List.{List, [], _∷_, map}
+use mathlib.Core.{Path.{_≡_, refl}, Bool.{Bool, false}, List.{List, [], _∷_, map}}
 use Prim.Native.Nat.{ℕ}
-use Rattle.model.specs.declared.{Control.Control, Call.Call, Asked.Asked}
-use Rattle.model.specs.Tables.{Tables, Queue}
-use Rattle.model.specs.Refusals.{Rule, Lent, malformed, openRules, startRules, pooledPush, nothingAsked, stepRules, reportRules}
+use Rattle.model.specs.{declared.{Control.Control, Call.Call, Asked.Asked}, Tables.{Tables, Queue}}
+use Rattle.model.specs.Refusals.{Rule, Lent, malformed, openRules, startRules, pooledPush, nothingAsked}
+use Rattle.model.specs.Refusals.{stepRules, reportRules}
 
 abbrev pub numbers : List Rule → List ℕ
 numbers l = map (λ (r : Rule). r .number) l

@@ -1,23 +1,18 @@
 -- A refusal is its number alone, that of the first rule that applies; every table keeps its contents.
-use mathlib.Core.Path.{_≡_, refl, ap, _∙_}
-use mathlib.Core.Bool.{Bool, true, false, not, cond}
-use mathlib.Core.Logic.{_≢_}
-use mathlib.Core.List.{List, [], _∷_}
+use mathlib.Core.{Path.{_≡_, refl, ap, _∙_}, Bool.{Bool, true, false, not, cond}, Logic._≢_, List.{List, [], _∷_}}
 use Prim.Native.Nat.{ℕ}
 use native.Mathlib.Omega.{arith}
 use lib.{Dec.eqb, Seq.set-getD}
 use borrow.Author.Tests.{eqb-false, ne-eqb, not-true}
-use Rattle.model.specs.declared.{Call.Call, Record.Record, Answer.Answer, Op.Op}
-use Rattle.model.specs.declared.Answer.the-variants.{Running}
-use Rattle.model.specs.declared.Outcome.the-variants.{Refused, Moved}
+use Rattle.model.specs.{declared.{Call.Call, Record.Record, Answer.{Answer, the-variants.Running}}, Lists.All}
+use Rattle.model.specs.declared.Op.{Op, the-variants.{Push, Pop, PushPooled, Step}}
+use Rattle.model.specs.{declared.Outcome.the-variants.{Refused, Moved}, Tables.{Tables, Queue, unused, taskAt}}
+use Rattle.model.specs.Refusals.{Rule, rule, first, openRules, openRefusal, Lent, among, alone, fits, startRules}
+use Rattle.model.specs.Refusals.{startRefusal, namedPush, pooledPush, nothingAsked, stepRules, stepRefusal}
+use Rattle.model.specs.Calls.{opened, OpenDone, openAs, Acted, decide, pushStart, pushPooledStart, popStart, step}
+use Rattle.model.specs.Calls.{finish, actOn, back, act, stepLent}
 use Rattle.model.specs.declared.Opening.the-variants as opening
-use Rattle.model.specs.declared.Op.the-variants.{Push, Pop, PushPooled, Step}
-use Rattle.model.specs.Tables.{Tables, Queue, unused, taskAt}
-use Rattle.model.specs.Refusals.{Rule, rule, first, openRules, openRefusal, Lent, among, alone, fits, startRules, startRefusal}
-use Rattle.model.specs.Refusals.{namedPush, pooledPush, nothingAsked, stepRules, stepRefusal}
-use Rattle.model.specs.Calls.{opened, OpenDone, openAs, Acted, decide, pushStart, putStart, popStart, finish, step, actOn, back, act, stepLent}
 use Rattle.model.proofs.tests.{Rules.numbered, Truth.and-true}
-use Rattle.model.specs.Lists.{All}
 
 -- No rule of a list applies; and the first of a list to apply has number n.
 abbrev pub NoneApplies : List Rule → Type 0
@@ -64,7 +59,7 @@ rulesOf q p r (PushPooled side label) = startRules (q .control) (fits q) p r sid
 rulesOf q p r Step = stepRules q p r
 
 pub decided : (q : Tables) (p : Lent) (r : Record) (o : Op) → Decided (rulesOf q p (r .call) o) q r (actOn q p r o)
-unfolding actOn pushStart putStart popStart step finish startRefusal stepRefusal
+unfolding actOn pushStart pushPooledStart popStart step finish startRefusal stepRefusal
 decided q p r (Push side slot label) = decided-by (rulesOf q p (r .call) (Push side slot label)) refl q r _ (Running 1) refl
 decided q p r (Pop side) = decided-by (rulesOf q p (r .call) (Pop side)) refl q r _ (Running 1) refl
 decided q p r (PushPooled side label) = decided-by (rulesOf q p (r .call) (PushPooled side label)) refl q r _ (Running 12) refl

@@ -1,13 +1,9 @@
 -- A run is refused only where its first step is, with that step's number; then, and where no step was made, every table keeps its contents.
-use mathlib.Core.Bool.{true}
-use mathlib.Core.Path.{_≡_, refl, ap}
+use mathlib.Core.{Bool.true, Path.{_≡_, refl, ap}}
 use Prim.Native.Nat.{ℕ, zero, suc}
 use native.Mathlib.Omega.{arith}
-use Rattle.model.specs.declared.Op.the-variants.{Step}
-use Rattle.model.specs.declared.Outcome.the-variants.{Refused}
-use Rattle.model.specs.{Tables.Queue, Calls.act}
-use Rattle.model.specs.Ends.{isMoved, isRunning}
-use Rattle.model.specs.Solo.{SoloDone, soloSteps, soloRun}
+use Rattle.model.specs.{declared.{Op.the-variants.Step, Outcome.the-variants.Refused}, Tables.Queue, Calls.act}
+use Rattle.model.specs.{Ends.{isMoved, isRunning}, Solo.{SoloDone, soloSteps, soloRun}}
 use Rattle.model.proofs.tests.Truth.{by-test, either, not-both}
 
 abbrev Unrefused : SoloDone → Type 0

@@ -1,23 +1,16 @@
 -- A start or step keeps the numbers of tasks and slots; so tables that were long enough stay so.
-use mathlib.Core.Path.{_≡_, ap, refl}
-use mathlib.Core.Bool.{Bool, _&&_, _||_, cond, false, not, true}
-use mathlib.Core.List.{List, [], _∷_}
+use mathlib.Core.{Path.{_≡_, ap, refl}, Bool.{Bool, _&&_, _||_, cond, false, not, true}, List.{List, [], _∷_}}
 use Prim.Native.Nat.{ℕ, _+_, _/_}
 use native.Mathlib.Omega.{arith}
-use lib.Dec.{eqb, leb, ltb}
-use lib.ListN.{length, length-append, length-replicate}
+use lib.{Dec.{eqb, leb, ltb}, ListN.{length, length-append, length-replicate}}
 use borrow.Author.Tests.{le-leb, lt-ltb}
-use Rattle.model.specs.declared.{Record.Record, Op.Op}
-use Rattle.model.specs.declared.Op.the-variants.{Push, Pop, PushPooled, Step}
-use Rattle.model.specs.Tables.{Tables, Queue, isPooled, taskAt, unused}
-use Rattle.model.specs.Sound.{rowsFit}
-use Rattle.model.specs.Places.{Touch, nothing, setAnchor, setLink, clearMark, takeSlot, setNext, setHead, wordFound, move, apply}
-use Rattle.model.specs.Refusals.{Lent, among, recordsFit, stepRefusal, pushRefusal, popRefusal, putRefusal}
-use Rattle.model.specs.Calls.{Acted, decide, pushStart, popStart, putStart, finish, step, actOn, act, opened, stacked}
-use Rattle.model.proofs.tests.Truth.{either}
-use Rattle.model.proofs.laws.Lengths.{Lengths, act-lengths}
-use Rattle.model.proofs.lists.Range.{length-climb}
-use Rattle.model.specs.Lists.{zeroed, every}
+use Rattle.model.specs.declared.{Record.Record, Op.{Op, the-variants.{Push, Pop, PushPooled, Step}}}
+use Rattle.model.specs.{Tables.{Tables, Queue, isPooled, taskAt, unused}, Sound.rowsFit, Calls.{opened, stacked}}
+use Rattle.model.specs.Places.{Touch, nothing, setAnchor, setLink, clearMark, takeSlot, setNext, setHead, move}
+use Rattle.model.specs.{Places.{wordFound, apply}, Lists.{zeroed, every}}
+use Rattle.model.specs.Refusals.{Lent, among, recordsFit, stepRefusal, pushRefusal, popRefusal, pushPooledRefusal}
+use Rattle.model.specs.Calls.{Acted, decide, pushStart, popStart, pushPooledStart, finish, step, actOn, act}
+use Rattle.model.proofs.{tests.Truth.either, laws.Lengths.{Lengths, act-lengths}, lists.Range.length-climb}
 
 pub record Sizes : Type 0 where
   pub tasks : ℕ
@@ -40,10 +33,10 @@ settled : (why : ℕ) (q : Tables) (r : Record) (done : Acted) → sizes (done .
 settled why q r done e = either (λ (a : Acted). sizes (a .tables) ≡ sizes q) (eqb why 0) e refl
 
 act-on : (q : Tables) (p : Lent) (r : Record) (o : Op) → sizes (actOn q p r o .tables) ≡ sizes q
-unfolding actOn pushStart popStart putStart step finish
+unfolding actOn pushStart popStart pushPooledStart step finish
 act-on q p r (Push side slot label) = settled (pushRefusal q p (r .call) side slot) q r _ refl
 act-on q p r (Pop side) = settled (popRefusal q p (r .call) side) q r _ refl
-act-on q p r (PushPooled side label) = settled (putRefusal q p (r .call) side) q r _ refl
+act-on q p r (PushPooled side label) = settled (pushPooledRefusal q p (r .call) side) q r _ refl
 act-on q p r Step = settled (stepRefusal q p (r .call)) q r _ (touched (move (q .control) (r .call) (wordFound q (r .call)) .touch) _)
 
 pub act-sizes : (q : Queue) (t : ℕ) (o : Op) → sizes (act q t o .queue .tables) ≡ sizes (q .tables)

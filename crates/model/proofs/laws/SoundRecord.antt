@@ -1,16 +1,13 @@
 -- A busy, sound record's tests taken apart.
-use mathlib.Core.Path.{_≡_}
-use mathlib.Core.Bool.{Bool, true, false, _||_, not, cond}
+use mathlib.Core.{Path._≡_, Bool.{Bool, true, false, _||_, not, cond}}
 use Prim.Native.Nat.{ℕ}
 use native.Mathlib.Omega.{arith}
 use lib.Dec.{eqb, leb}
 use borrow.Author.Tests.{le-leb, leb-true}
 use Rattle.word.specs.Anchor.{anchorOf}
-use Rattle.model.specs.declared.Call.{Call}
-use Rattle.model.specs.Sound.{anchorTests, anchorSound, recordTests, recordSound}
+use Rattle.model.specs.{declared.Call.Call, Sound.{anchorTests, anchorSound, recordTests, recordSound}}
+use Rattle.model.specs.{Lists.every, Kinds.{isPop, isPush, drawing, giving, helping}}
 use Rattle.model.proofs.tests.Rules.{tests}
-use Rattle.model.specs.Lists.{every}
-use Rattle.model.specs.Kinds.{isPop, isPush, drawing, giving, helping}
 
 pub implied : (a b : Bool) → not a || b ≡ true → a ≡ true → b ≡ true
 implied true b e h = e

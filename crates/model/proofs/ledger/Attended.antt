@@ -1,23 +1,18 @@
 -- A step in the ledger goes to the open call of its task, and the book follows.
-use mathlib.Core.Bool.{Bool, _&&_, cond, true}
-use mathlib.Core.List.{List, [], _∷_}
-use mathlib.Core.Logic.{_≢_}
-use mathlib.Core.Path.{_∙_, _≡_, ap, refl, subst, sym}
+use mathlib.Core.{Bool.{Bool, _&&_, cond, true}, List.{List, [], _∷_}, Logic._≢_, Path.{_∙_, _≡_, ap, refl, subst, sym}}
 use Prim.Native.Nat.{suc, ℕ}
 use native.Mathlib.Omega.{arith}
 use lib.{Dec.eqb, ListN.length}
 use borrow.Author.Tests.{eq-eqb, eqb-true, ne-eqb}
-use Rattle.model.specs.History.{LedgerCall, Effect, Ending, Event, Ledger, Once, answered, attend, ended, isOpen, over, pending, stepOf}
-use Rattle.model.specs.declared.Answer.the-variants.{Empty, NoFreeSlot, Popped, Pushed, Running}
-use Rattle.model.specs.declared.{Answer.Answer, Entry.Entry}
-use Rattle.model.proofs.tests.Truth.{and-true, by-test, not-both}
+use Rattle.model.specs.History.{LedgerCall, Effect, Ending, Event, Ledger, Once, answered, attend, ended, isOpen}
+use Rattle.model.specs.{History.{over, pending, stepOf}, declared.Entry.Entry}
+use Rattle.model.specs.declared.Answer.{the-variants.{Empty, NoFreeSlot, Popped, Pushed, Running}, Answer}
+use Rattle.model.proofs.{tests.Truth.{and-true, by-test, not-both}, bridge.View.{anchorSeen, answerSeen}}
+use Rattle.model.proofs.machine.{Laws.{upd-other, upd-same}, Machine.upd}
+use Rattle.model.proofs.ledger.Matches.{Final, Last, Matches, Tracked, Tracks, apart, opens, rest-keeps}
+use Rattle.model.proofs.ledger.{Matches.same-answer, Served.{Told, step-call}}
 use Rattle.model.proofs.machine.Book as B
-use Rattle.model.proofs.machine.Laws.{upd-other, upd-same}
 use Rattle.model.proofs.machine.Machine as M
-use Rattle.model.proofs.machine.Machine.{upd}
-use Rattle.model.proofs.bridge.View.{anchorSeen, answerSeen}
-use Rattle.model.proofs.ledger.Matches.{Final, Last, Matches, Tracked, Tracks, apart, opens, rest-keeps, same-answer}
-use Rattle.model.proofs.ledger.Served.{Told, step-call}
 
 -- What the book holds after a step of task t, whose call is k, with its slot if that was drawn now.
 abbrev pub bookAfter : B.Book → ℕ → B.BookCall → Event → Answer → B.Book

@@ -1,40 +1,34 @@
 -- Every operation keeps the ledger matched: a refused one, a start, a step.
-use mathlib.Core.Bool.{Bool, _&&_, cond, false, true}
-use mathlib.Core.List.{List, [], _∷_}
-use mathlib.Core.Logic.{_≢_, _⊎_, inl, inr}
+use mathlib.Core.{Bool.{Bool, _&&_, cond, false, true}, List.{List, [], _∷_}, Logic.{_≢_, _⊎_, inl, inr}}
 use mathlib.Core.Path.{_∙_, _≡_, ap, refl, subst, sym}
 use Prim.Native.Nat.{_≤_, suc, ℕ}
 use native.Mathlib.Omega.{arith}
 use lib.{Dec.eqb, ListN.set}
 use borrow.Author.Tests.{eq-eqb, eqb-true, ne-eqb}
 use Rattle.word.specs.Anchor.{anchorOf}
-use Rattle.model.specs.Calls.{Acted, Done, act, actOn, back, finish, popStart, pushStart, putStart, step}
-use Rattle.model.specs.{Deque.saysNoSlot, Lists.All}
-use Rattle.model.specs.History.{LedgerCall, Event, Ledger, Request, accept, attend, begins, final, isEffect, ledgerFrom, note, over, run, toldEntry}
-use Rattle.model.specs.Places.{wordFound, move}
-use Rattle.model.specs.Refusals.{among, popRefusal, pushRefusal, putRefusal, stepRefusal}
-use Rattle.model.specs.Tables.{Queue, asking, isPooled, marked, recordAt, started, taskAt, unused, withCall, withTaken}
-use Rattle.model.specs.declared.Answer.the-variants.{Empty, NoFreeSlot, Popped, Pushed, Running}
-use Rattle.model.specs.declared.{Answer.Answer, Entry.Entry, Op.Op, Call.Call, Record.Record}
-use Rattle.model.specs.declared.Op.the-variants.{Pop, Push, PushPooled, Step}
-use Rattle.model.specs.declared.Outcome.the-variants.{Moved, Refused}
-use Rattle.model.proofs.tests.Truth.{by-test, decide-eq, not-both}
-use Rattle.model.proofs.lists.Store.{set-back}
-use Rattle.model.proofs.machine.{Answers.EndsAt, Machine.upd}
-use Rattle.model.proofs.machine.Book as B
-use Rattle.model.proofs.machine.Laws.{upd-other, upd-same}
-use Rattle.model.proofs.machine.Machine as M
-use Rattle.model.proofs.invariant.Invariant.{Inv}
-use Rattle.model.proofs.bridge.Accepted.{Lies, Stepping, pop-accepted, push-accepted, put-accepted, step-accepted}
-use Rattle.model.proofs.bridge.{Decoded.seenMove, Facts.LinksFine}
-use Rattle.model.proofs.bridge.Operations.{not-idle, pop-keeps, push-keeps, put-back, put-keeps, reply, step-ends, step-grants, step-lacks}
-use Rattle.model.proofs.bridge.Operations.{step-keeps, step-links, step-pooled, step-task, step-told, stepped, task-of}
+use Rattle.model.specs.Calls.{Acted, Done, act, actOn, back, finish, popStart, pushStart, pushPooledStart, step}
+use Rattle.model.specs.{Deque.saysNoFreeSlot, Lists.All, History.{ledgerFrom, over, run, toldEntry}}
+use Rattle.model.specs.History.{LedgerCall, Event, Ledger, Request, accept, attend, begins, final, isEffect, note}
+use Rattle.model.specs.{Places.{wordFound, move}, Tables.withTaken}
+use Rattle.model.specs.Refusals.{among, popRefusal, pushRefusal, pushPooledRefusal, stepRefusal}
+use Rattle.model.specs.Tables.{Queue, asking, isPooled, marked, recordAt, started, taskAt, unused, withCall}
+use Rattle.model.specs.declared.Answer.{the-variants.{Empty, NoFreeSlot, Popped, Pushed, Running}, Answer}
+use Rattle.model.specs.declared.{Entry.Entry, Op.{Op, the-variants.{Pop, Push, PushPooled, Step}}, Call.Call}
+use Rattle.model.specs.declared.{Record.Record, Outcome.the-variants.{Moved, Refused}}
+use Rattle.model.proofs.{tests.Truth.{by-test, decide-eq, not-both}, lists.Store.set-back}
+use Rattle.model.proofs.machine.{Answers.EndsAt, Machine.upd, Laws.{upd-other, upd-same}}
+use Rattle.model.proofs.{invariant.Invariant.Inv, bridge.Operations.{step-pooled, step-told, task-of}}
+use Rattle.model.proofs.bridge.Accepted.{Lies, Stepping, pop-accepted, push-accepted, push-pooled-accepted}
+use Rattle.model.proofs.bridge.{Accepted.step-accepted, Decoded.seenMove, Facts.LinksFine}
+use Rattle.model.proofs.bridge.Operations.{not-idle, pop-keeps, push-keeps, put-back, put-keeps, reply, stepped}
+use Rattle.model.proofs.bridge.Operations.{step-ends, step-grants, step-lacks, step-keeps, step-links, step-task}
 use Rattle.model.proofs.bridge.View.{anchorSeen, answerSeen, kindOf, placeOf, recOf, stateOf, touchSeen, view}
-use Rattle.model.proofs.ledger.Attended.{Attended, attend-keeps, bookAfter, goingOn}
-use Rattle.model.proofs.ledger.Matched.{Matched, busyNo}
-use Rattle.model.proofs.ledger.Matches.{Final, Matches, Names, Tracks, matches-granted, opens, rest-keeps, tracks-mono}
-use Rattle.model.proofs.ledger.Served.{Told, effect-is, no-slot-is}
+use Rattle.model.proofs.ledger.{Attended.{Attended, attend-keeps, bookAfter, goingOn}, Matched.{Matched, busyNo}}
+use Rattle.model.proofs.ledger.Matches.{Final, Matches, Names, Tracks, matches-granted, opens, rest-keeps}
+use Rattle.model.proofs.ledger.{Matches.tracks-mono, Served.{Told, effect-is, no-free-slot-is}}
 use Rattle.model.proofs.unsound.Suits.{kind-push}
+use Rattle.model.proofs.machine.Book as B
+use Rattle.model.proofs.machine.Machine as M
 
 goes-on : (a : Answer) (b : Bool) → EndsAt (answerSeen a) b → goingOn a ≡ busyNo b
 goes-on (Running p) b e = rw e
@@ -57,12 +51,12 @@ kept-head b t w NoFreeSlot h f = h .0
 -- The end that an effect sets at a push's side is the slot that the ledger tells: the one named, if one was.
 told-end : (c : LedgerCall) (k : B.BookCall) (ev : Event) (a : Answer) (p : Bool) → k .side ≡ eqb (c .side) 1
     → Names p (c .named) (k .slot) (c .entry .slot)
-    → (B.effect (anchorSeen (ev .before)) (anchorSeen (ev .after)) (answerSeen a) ≡ true → B.isNoSlot (answerSeen a) ≡ false → k .kind ≡ M.push
+    → (B.effect (anchorSeen (ev .before)) (anchorSeen (ev .after)) (answerSeen a) ≡ true → B.isNoFreeSlot (answerSeen a) ≡ false → k .kind ≡ M.push
     → M.tip (anchorSeen (ev .after)) (k .side) ≡ k .slot)
-    → isEffect ev a ≡ true → saysNoSlot a ≡ false → k .kind ≡ M.push → k .slot ≡ toldEntry c ev .slot
+    → isEffect ev a ≡ true → saysNoFreeSlot a ≡ false → k .kind ≡ M.push → k .slot ≡ toldEntry c ev .slot
 told-end c k ev a p side names f e z y = by-test (λ x. k .slot ≡ x) (c .named)
     (λ w. named p w names)
-    (λ _. sym (f (effect-is ev a ∙ e) (no-slot-is a ∙ z) y) ∙ ap (λ (d : Bool). M.tip (anchorSeen (ev .after)) d) side ∙ end (eqb (c .side) 1))
+    (λ _. sym (f (effect-is ev a ∙ e) (no-free-slot-is a ∙ z) y) ∙ ap (λ (d : Bool). M.tip (anchorSeen (ev .after)) d) side ∙ end (eqb (c .side) 1))
   where
     end : (d : Bool) → M.tip (anchorSeen (ev .after)) d ≡ cond d (anchorOf (ev .after) .right) (anchorOf (ev .after) .left)
     end false = refl
@@ -147,7 +141,7 @@ module _ (n : ℕ) (q : Queue) (l : Ledger) (g : Matched n q l) (t : ℕ) where
           record {
             slot = told-end c k ev a (isPooled (q .tables .control)) (m′ .side) (m′ .slot) (step-told q b (g .inv) (g .links) t s);
             lacks = λ z.
-                let y = step-lacks q b (g .inv) (g .links) t s (no-slot-is a ∙ z) in
+                let y = step-lacks q b (g .inv) (g .links) t s (no-free-slot-is a ∙ z) in
                 (eq-eqb _ _ (kind-push (c .kind) (sym (m .kind) ∙ y .2)), unnamed-call c (b .calls t) (isPooled (q .tables .control)) (y .0) (m .slot));
           },
         )
@@ -235,13 +229,13 @@ module _ (n : ℕ) (q : Queue) (l : Ledger) (g : Matched n q l) (t : ℕ) where
         (record { slot = 0; label = 0 }) refl refl
         (replaced (started 1 side 0 0)) (unnamed (isPooled (q .tables .control))) (pop-keeps q (g .book) (g .inv) (g .links) t z free side) (g .links)
 
-    put-good : (side y : ℕ) → isPooled (q .tables .control) ≡ true → Puts (PushPooled side y) (record {
+    push-pooled-good : (side y : ℕ) → isPooled (q .tables .control) ≡ true → Puts (PushPooled side y) (record {
       tables = q .tables;
       task = put (asking side y);
       outcome = Moved (Running 12);
     })
     unfolding note accept recOf
-    put-good side y p = begun (record { tables = q .tables; records = set (q .records) t (put (asking side y)) }) (asking side y) 0 side false
+    push-pooled-good side y p = begun (record { tables = q .tables; records = set (q .records) t (put (asking side y)) }) (asking side y) 0 side false
         (record { slot = 0; label = y }) refl refl
         (replaced (asking side y)) (unnamed (isPooled (q .tables .control))) (put-keeps q (g .book) (g .inv) (g .links) t z free side y p) (g .links)
 
@@ -260,7 +254,7 @@ module _ (n : ℕ) (q : Queue) (l : Ledger) (g : Matched n q l) (t : ℕ) where
         (record { spare = g .links .spare; tag = g .links .tag; slot = g .links .slot; next = g .links .next; head = g .links .head })
 
   pub act-good : (o : Op) → After o (act q t o)
-  unfolding act actOn pushStart putStart popStart step
+  unfolding act actOn pushStart pushPooledStart popStart step
   act-good (Push side x y) = by-test (Puts (Push side x y)) (eqb (pushRefusal (q .tables) (among q t) r side x) 0)
       (λ e. let p = push-accepted q t side x (eqb-true _ _ e) in
       push-good (p .starting .lies) (p .starting .free) side x y (p .real) (p .within) (p .named) (p .unmarked))
@@ -268,9 +262,9 @@ module _ (n : ℕ) (q : Queue) (l : Ledger) (g : Matched n q l) (t : ℕ) where
   act-good (Pop side) = by-test (Puts (Pop side)) (eqb (popRefusal (q .tables) (among q t) r side) 0)
       (λ e. let p = pop-accepted q t side (eqb-true _ _ e) in pop-good (p .lies) (p .free) side)
       (λ e. refused (Pop side) (popRefusal (q .tables) (among q t) r side))
-  act-good (PushPooled side y) = by-test (Puts (PushPooled side y)) (eqb (putRefusal (q .tables) (among q t) r side) 0)
-      (λ e. let p = put-accepted q t side (eqb-true _ _ e) in put-good (p .0 .lies) (p .0 .free) side y (p .1))
-      (λ e. refused (PushPooled side y) (putRefusal (q .tables) (among q t) r side))
+  act-good (PushPooled side y) = by-test (Puts (PushPooled side y)) (eqb (pushPooledRefusal (q .tables) (among q t) r side) 0)
+      (λ e. let p = push-pooled-accepted q t side (eqb-true _ _ e) in push-pooled-good (p .0 .lies) (p .0 .free) side y (p .1))
+      (λ e. refused (PushPooled side y) (pushPooledRefusal (q .tables) (among q t) r side))
   act-good Step = by-test (Puts Step) (eqb (stepRefusal (q .tables) (among q t) r) 0)
       (λ e. step-good (step-accepted q t (eqb-true _ _ e))) (λ e. refused Step (stepRefusal (q .tables) (among q t) r))
 

@@ -1,15 +1,12 @@
 -- Calls that the book matches are lawful.
-use mathlib.Core.List.{List, [], _∷_}
-use mathlib.Core.Path.{_≡_}
+use mathlib.Core.{List.{List, [], _∷_}, Path._≡_}
 use Prim.Native.Nat.{_≤_, ℕ}
 use native.Mathlib.Omega.{arith}
 use lib.ListN.{length}
 use Rattle.model.specs.History.{AtMostOnce, LedgerCall, Effect, Ending, Lawful, Ledger, answered, pending}
-use Rattle.model.specs.Tables.{Queue, isPooled}
+use Rattle.model.specs.{Tables.{Queue, isPooled}, Lists.All}
 use Rattle.model.proofs.places.AtMostOnce.{few-effects}
-use Rattle.model.proofs.ledger.Matched.{Matched}
-use Rattle.model.proofs.ledger.Matches.{Last, Tracked, Tracks}
-use Rattle.model.specs.Lists.{All}
+use Rattle.model.proofs.ledger.{Matched.Matched, Matches.{Last, Tracked, Tracks}}
 
 module _ (n : ℕ) (q : Queue) (l : Ledger) (g : Matched n q l) where
   lawful : (c : LedgerCall) (e : Ending) → Tracked (isPooled (q .tables .control)) n (g .book .calls) c e → Lawful c e

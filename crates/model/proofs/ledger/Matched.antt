@@ -1,13 +1,10 @@
 -- What holds between two operations: the invariant, and a ledger that the book matches.
-use mathlib.Core.Bool.{Bool, cond}
-use mathlib.Core.Path.{_≡_}
+use mathlib.Core.{Bool.{Bool, cond}, Path._≡_}
 use Prim.Native.Nat.{ℕ}
-use Rattle.model.specs.History.{Ledger}
-use Rattle.model.specs.Tables.{Queue, isPooled}
+use Rattle.model.specs.{History.Ledger, Tables.{Queue, isPooled}}
 use Rattle.model.proofs.machine.Book as B
 use Rattle.model.proofs.machine.Machine as M
-use Rattle.model.proofs.invariant.Invariant.{Inv}
-use Rattle.model.proofs.bridge.{Facts.LinksFine, View.stateOf}
+use Rattle.model.proofs.{invariant.Invariant.Inv, bridge.{Facts.LinksFine, View.stateOf}}
 use Rattle.model.proofs.ledger.Matches.{Tracks, opens}
 
 abbrev pub busyNo : Bool → ℕ

@@ -1,20 +1,15 @@
 -- A call of the ledger and the call in the book.
-use mathlib.Core.Bool.{Bool, _&&_, cond, false, true}
-use mathlib.Core.List.{List, [], _∷_}
-use mathlib.Core.Logic.{_≢_}
+use mathlib.Core.{Bool.{Bool, _&&_, cond, false, true}, List.{List, [], _∷_}, Logic._≢_}
 use mathlib.Core.Path.{_∙_, _≡_, ap, refl, subst, sym}
 use Prim.Native.Nat.{_<_, suc, ℕ}
 use native.Mathlib.Omega.{arith}
 use lib.{Dec.eqb, ListN.length}
 use borrow.Author.Tests.{eq-eqb}
-use Rattle.model.specs.History.{LedgerCall, Effect, Ending, Once, answered, isOpen, pending}
-use Rattle.model.specs.declared.Answer.the-variants.{Empty, NoFreeSlot, Popped, Pushed, Running}
-use Rattle.model.specs.declared.Answer.{Answer}
-use Rattle.model.proofs.tests.Truth.{not-both}
-use Rattle.model.proofs.machine.Book as B
+use Rattle.model.specs.{History.{LedgerCall, Effect, Ending, Once, answered, isOpen, pending}, Lists.All}
+use Rattle.model.specs.declared.Answer.{the-variants.{Empty, NoFreeSlot, Popped, Pushed, Running}, Answer}
+use Rattle.model.proofs.{tests.Truth.not-both, bridge.View.{answerSeen, kindOf}}
 use Rattle.model.proofs.machine.Machine.{Touch, clear, none, putAnchor, putHead, putLink, putNext, take}
-use Rattle.model.proofs.bridge.View.{answerSeen, kindOf}
-use Rattle.model.specs.Lists.{All}
+use Rattle.model.proofs.machine.Book as B
 
 -- An answer that ends a call.
 abbrev pub Final : Answer → Type 0

@@ -1,30 +1,20 @@
 -- The tables that an opening leaves: nobody has called, nothing waits.
-use mathlib.Core.Bool.{Bool, cond, false, true}
-use mathlib.Core.Logic.{_≢_, _⊎_, inl, inr}
-use mathlib.Core.List.{List, []}
+use mathlib.Core.{Bool.{Bool, cond, false, true}, Logic.{_≢_, _⊎_, inl, inr}, List.{List, []}}
 use mathlib.Core.Path.{_∙_, _≡_, ap, refl, subst, sym}
 use Prim.Native.Nat.{_%_, _*_, _+_, _/_, _<_, _^_, _≤_, suc, zero, ℕ}
 use native.Mathlib.{Nat.zero-div, Omega.arith}
-use lib.Dec.{eqb, ltb}
-use lib.ListN.{List·getD-append, drop, getD, getD-replicate, length-replicate, replicate}
+use lib.{Dec.{eqb, ltb}, ListN.{List·getD-append, drop, getD, getD-replicate, length-replicate, replicate}}
 use borrow.Author.Tests.{ltb-true, not-false}
-use Rattle.word.specs.Anchor.{emptyAnchor, packAnchor}
-use Rattle.word.specs.Link.{linkOf, spareOf}
-use Rattle.model.specs.Calls.{opened, stacked}
-use Rattle.model.specs.{History.Ledger, Lists.zeroed}
-use Rattle.model.specs.Refusals.{openRefusal, openRules}
+use Rattle.word.specs.{Anchor.{emptyAnchor, packAnchor}, Link.{linkOf, spareOf}}
+use Rattle.model.specs.{Calls.{opened, stacked}, History.Ledger, Lists.zeroed, Refusals.{openRefusal, openRules}}
 use Rattle.model.specs.Tables.{Queue, idle, isPooled, marked, recordAt, unused}
 use Rattle.model.specs.declared.{Call.Call, Record.Record}
-use Rattle.model.proofs.tests.Rules.{cleared}
-use Rattle.model.proofs.tests.Truth.{by-test, decide-eq}
-use Rattle.model.proofs.lists.Range.{climb-last, climb-step}
+use Rattle.model.proofs.{tests.{Rules.cleared, Truth.{by-test, decide-eq}}, lists.Range.{climb-last, climb-step}}
+use Rattle.model.proofs.{invariant.Owners.{Pool, Spare, free}, places.Opening.{all-stacked, fresh}}
+use Rattle.model.proofs.{bridge.Facts.from1-true, ledger.Matched.{Matched, busyNo}}
+use Rattle.model.proofs.bridge.View.{anchorSeen, linkAt, placeOf, recOf, stateOf, statusOf, view}
 use Rattle.model.proofs.machine.Book as B
 use Rattle.model.proofs.machine.Machine as M
-use Rattle.model.proofs.invariant.Owners.{Pool, Spare, free}
-use Rattle.model.proofs.places.Opening.{all-stacked, fresh}
-use Rattle.model.proofs.bridge.Facts.{from1-true}
-use Rattle.model.proofs.bridge.View.{anchorSeen, linkAt, placeOf, recOf, stateOf, statusOf, view}
-use Rattle.model.proofs.ledger.Matched.{Matched, busyNo}
 
 abbrev pub nobody : Ledger
 nobody = record { deque = []; calls = [] }

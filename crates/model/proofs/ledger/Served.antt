@@ -1,21 +1,17 @@
 -- The sequential deque of the ledger serves a call as that of the book does.
-use mathlib.Core.Bool.{Bool, cond, false, true}
-use mathlib.Core.List.{List, [], _∷_}
-use mathlib.Core.Path.{_∙_, _≡_, ap, refl, subst, sym}
+use mathlib.Core.{Bool.{Bool, cond, false, true}, List.{List, [], _∷_}, Path.{_∙_, _≡_, ap, refl, subst, sym}}
 use Prim.Native.Nat.{suc, ℕ}
 use native.Mathlib.Omega.{arith}
 use lib.Dec.{eqb}
-use Rattle.model.specs.Deque.{Served, saysNoSlot, serve, serveFor, servePop, servePush, takeFirst}
-use Rattle.model.specs.History.{LedgerCall, Effect, Ending, Event, Ledger, continued, ended, isEffect, lacksSlot, stepOf, toldEntry}
-use Rattle.model.specs.declared.Answer.the-variants.{Empty, NoFreeSlot, Popped, Pushed, Running}
-use Rattle.model.specs.declared.{Answer.Answer, Entry.Entry}
-use Rattle.model.proofs.tests.Truth.{split}
-use Rattle.model.proofs.lists.Deque.{put, rest, seen, took}
-use Rattle.model.proofs.lists.Ends.{seen-nil}
-use Rattle.model.proofs.machine.Book as B
-use Rattle.model.proofs.machine.Machine as M
+use Rattle.model.specs.Deque.{Served, saysNoFreeSlot, serve, serveFor, servePop, servePush, takeFirst}
+use Rattle.model.specs.History.{LedgerCall, Effect, Ending, Event, Ledger, continued, ended, isEffect, lacksSlot}
+use Rattle.model.specs.{History.{stepOf, toldEntry}, declared.Entry.Entry}
+use Rattle.model.specs.declared.Answer.{the-variants.{Empty, NoFreeSlot, Popped, Pushed, Running}, Answer}
+use Rattle.model.proofs.{tests.Truth.split, lists.{Deque.{put, rest, seen, took}, Ends.seen-nil}}
 use Rattle.model.proofs.bridge.View.{anchorSeen, answerSeen}
 use Rattle.model.proofs.ledger.Matches.{Final, Last, Matches, matches-mono}
+use Rattle.model.proofs.machine.Book as B
+use Rattle.model.proofs.machine.Machine as M
 
 pub effect-is : (ev : Event) (a : Answer) → B.effect (anchorSeen (ev .before)) (anchorSeen (ev .after)) (answerSeen a) ≡ isEffect ev a
 unfolding isEffect
@@ -25,12 +21,12 @@ effect-is ev Empty = refl
 effect-is ev (Popped e) = refl
 effect-is ev NoFreeSlot = refl
 
-pub no-slot-is : (a : Answer) → B.isNoSlot (answerSeen a) ≡ saysNoSlot a
-no-slot-is (Running p) = refl
-no-slot-is Pushed = refl
-no-slot-is Empty = refl
-no-slot-is (Popped e) = refl
-no-slot-is NoFreeSlot = refl
+pub no-free-slot-is : (a : Answer) → B.isNoFreeSlot (answerSeen a) ≡ saysNoFreeSlot a
+no-free-slot-is (Running p) = refl
+no-free-slot-is Pushed = refl
+no-free-slot-is Empty = refl
+no-free-slot-is (Popped e) = refl
+no-free-slot-is NoFreeSlot = refl
 
 pub record Agrees (c : LedgerCall) (k : B.BookCall) (d : List Entry) (s : Served) (w : B.Noted) : Type 0 where
   pub deque : w .queue ≡ s .deque
@@ -71,8 +67,8 @@ last-other n c k (x ∷ l) e m h = record { told = h .told; final = h .final; be
 
 -- A push that the deque serves has the slot that the ledger tells, and who is answered *no slot* is a push that named none.
 pub record Told (c : LedgerCall) (k : B.BookCall) (ev : Event) (a : Answer) : Type 0 where
-  pub slot : isEffect ev a ≡ true → saysNoSlot a ≡ false → k .kind ≡ M.push → k .slot ≡ toldEntry c ev .slot
-  pub lacks : saysNoSlot a ≡ true → (eqb (c .kind) 0 ≡ true) × (c .named ≡ false)
+  pub slot : isEffect ev a ≡ true → saysNoFreeSlot a ≡ false → k .kind ≡ M.push → k .slot ≡ toldEntry c ev .slot
+  pub lacks : saysNoFreeSlot a ≡ true → (eqb (c .kind) 0 ≡ true) × (c .named ≡ false)
 
 module _ (p : Bool) (n : ℕ) (ev : Event) (a : Answer) (d : List Entry) (c : LedgerCall) (k : B.BookCall) (h : Matches p n c k) (cs : List LedgerCall)
     (t : Told c k ev a) where
@@ -80,14 +76,14 @@ module _ (p : Bool) (n : ℕ) (ev : Event) (a : Answer) (d : List Entry) (c : Le
   s = serveFor (lacksSlot c a) (c .kind) (c .side) (toldEntry c ev) d
 
   abbrev w : B.Noted
-  w = cond (saysNoSlot a) (record { call = B.told k M.noSlot; queue = d }) (B.served (k .kind) k d)
+  w = cond (saysNoFreeSlot a) (record { call = B.told k M.noFreeSlot; queue = d }) (B.served (k .kind) k d)
 
   kind-is : (b : Bool) → b ≡ true → cond b M.push M.pop ≡ M.push
   kind-is b e = ap (λ (b : Bool). cond b M.push M.pop) e
 
   agrees : isEffect ev a ≡ true → Agrees c k d s w
   unfolding serve serveFor
-  agrees e = split (saysNoSlot a)
+  agrees e = split (saysNoFreeSlot a)
       (λ z. rw (z, t .lacks z .0, t .lacks z .1) (record { deque = refl; told = refl; final = tt; call = refl }))
       (λ z. rw z (subst (λ y. Agrees c k d (serve (c .kind) (c .side) (toldEntry c ev) d) (B.served y k d)) (sym (h .kind))
       (serve-is c k (toldEntry c ev) (h .side) (h .label) d (eqb (c .kind) 0) (λ y. t .slot e z (h .kind ∙ kind-is (eqb (c .kind) 0) y)))))
@@ -134,4 +130,4 @@ module _ (p : Bool) (n : ℕ) (ev : Event) (a : Answer) (d : List Entry) (c : Le
 
   pub step-call : Stepped p n a c cs (B.noted k d (anchorSeen (ev .before)) (anchorSeen (ev .after)) (answerSeen a)) (stepOf n ev a d c cs)
   unfolding stepOf B.noted
-  step-call = split (isEffect ev a) (λ e. rw (effect-is ev a, e, no-slot-is a) (with-effect e)) (λ e. rw (effect-is ev a, e) without)
+  step-call = split (isEffect ev a) (λ e. rw (effect-is ev a, e, no-free-slot-is a) (with-effect e)) (λ e. rw (effect-is ev a, e) without)

@@ -1,36 +1,22 @@
 -- The labels waiting are the deque: the walk along the links meets the queue's slots, each once.
-use mathlib.Core.Bool.{Bool, cond, false, not, true}
-use mathlib.Core.List.{List, [], _∷_, reverse}
-use mathlib.Core.Logic.{_≢_}
+use mathlib.Core.{Bool.{Bool, cond, false, not, true}, List.{List, [], _∷_, reverse}, Logic._≢_}
 use mathlib.Core.Path.{_∙_, _≡_, ap, refl, subst, subst₂, sym}
 use Prim.Native.Nat.{_≤_, suc, zero, ℕ}
 use native.Mathlib.Omega.{arith}
-use lib.Dec.{eqb}
-use lib.ListN.{getD, length, length-map, length-reverse}
+use lib.{Dec.eqb, ListN.{getD, length, length-map, length-reverse}}
 use borrow.Author.Tests.{eq-eqb, eqb-false, eqb-true, le-leb, ne-eqb}
 use Rattle.word.specs.{Anchor.anchorOf, Link.linkOf}
 use Rattle.model.specs.Walk.{Walk, along, andThen, broken, contents, entries, walkFrom, whence as side-of}
-use Rattle.model.specs.Sound.{from1, linkSound}
-use Rattle.model.specs.{Tables.Tables, Lists.All}
-use Rattle.model.specs.declared.Entry.{Entry}
-use Rattle.model.proofs.tests.Truth.{and-of, and-true, by-test, not-both, split}
-use Rattle.model.proofs.lists.All.{all-far, all-map, all-seen}
-use Rattle.model.proofs.lists.Chain.{chain-map, distinct-seen, from-next}
-use Rattle.model.proofs.lists.Deque.{Chain, Distinct, From, front, seen}
-use Rattle.model.proofs.lists.Ends.{far-cons, seen-seen}
-use Rattle.model.proofs.lists.Pigeonhole.{pigeon}
-use Rattle.model.proofs.lists.Slots.{map-seen, slots, slots-nil}
-use Rattle.model.proofs.machine.Book.{whence}
-use Rattle.model.proofs.machine.Machine.{Anchor, Link, Status, pushing, stable, tip}
-use Rattle.model.proofs.invariant.Owners.{Owner, Intact, queued}
-use Rattle.model.proofs.invariant.Shape.{Joint, Linked, Rough}
-use Rattle.model.proofs.chain.Ends.{no-entry}
-use Rattle.model.proofs.chain.Sides.{far as far-end, near as near-end, turn}
-use Rattle.model.proofs.places.Owned.{queued-free}
-use Rattle.model.proofs.bridge.Facts.{LinksFine}
-use Rattle.model.proofs.unsound.Tests.{link-sound}
-use Rattle.model.proofs.bridge.View.{anchorSeen, linkAt, statusOf, view}
+use Rattle.model.specs.{Sound.{from1, linkSound}, Tables.Tables, Lists.All, declared.Entry.Entry}
 use Rattle.model.specs.Sides.{far, isEmpty, links, near, opposite}
+use Rattle.model.proofs.{tests.Truth.{and-of, and-true, by-test, not-both, split}, places.Owned.queued-free}
+use Rattle.model.proofs.lists.{All.{all-far, all-map, all-seen}, Chain.{chain-map, distinct-seen, from-next}}
+use Rattle.model.proofs.lists.{Deque.{Chain, Distinct, From, front, seen}, Ends.{far-cons, seen-seen}}
+use Rattle.model.proofs.{lists.{Pigeonhole.pigeon, Slots.{map-seen, slots, slots-nil}}, unsound.Tests.link-sound}
+use Rattle.model.proofs.machine.{Book.whence, Machine.{Anchor, Link, Status, pushing, stable, tip}}
+use Rattle.model.proofs.invariant.{Owners.{Owner, Intact, queued}, Shape.{Joint, Linked, Rough}}
+use Rattle.model.proofs.chain.{Ends.no-entry, Sides.{far as far-end, near as near-end, turn}}
+use Rattle.model.proofs.bridge.{Facts.LinksFine, View.{anchorSeen, linkAt, statusOf, view}}
 
 abbrev Real : Tables → Entry → Type 0
 Real q e = (e .slot ≢ 0) × (e .slot ≤ q .control .slots)

@@ -1,6 +1,5 @@
 -- What holds of all entries of a deque, seen from a side.
-use mathlib.Core.Bool.{Bool, false, true}
-use mathlib.Core.List.{List, [], _++_, _∷_, reverse, reverse-cons}
+use mathlib.Core.{Bool.{Bool, false, true}, List.{List, [], _++_, _∷_, reverse, reverse-cons}}
 use Rattle.model.proofs.lists.Deque.{front, rest, seen}
 use Rattle.model.specs.Lists.{All}
 

@@ -1,9 +1,6 @@
 -- Chains of entries: turned round, mapped, without repetition.
-use mathlib.Core.Bool.{Bool, false, true}
-use mathlib.Core.List.{List, [], _++_, _∷_, reverse, reverse-cons}
-use mathlib.Core.{Logic._≢_, Path.sym}
-use Rattle.model.proofs.lists.All.{all-append, all-reverse}
-use Rattle.model.proofs.lists.Deque.{Chain, Distinct, From, seen}
+use mathlib.Core.{Bool.{Bool, false, true}, List.{List, [], _++_, _∷_, reverse, reverse-cons}, Logic._≢_, Path.sym}
+use Rattle.model.proofs.lists.{All.{all-append, all-reverse}, Deque.{Chain, Distinct, From, seen}}
 use Rattle.model.specs.Lists.{All}
 
 module _ {A : Type 0} where

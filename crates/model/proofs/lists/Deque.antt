@@ -1,7 +1,5 @@
 -- A deque as a list from left to right, and as it is seen from a side; chains of entries.
-use mathlib.Core.Bool.{Bool, cond}
-use mathlib.Core.List.{List, [], _∷_, reverse}
-use mathlib.Core.Logic.{_≢_}
+use mathlib.Core.{Bool.{Bool, cond}, List.{List, [], _∷_, reverse}, Logic._≢_}
 pub use Rattle.model.specs.Lists.{All}
 
 -- Seen from a side (true: right), that side's end comes first.

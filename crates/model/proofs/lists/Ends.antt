@@ -1,6 +1,5 @@
 -- A deque seen from its sides: twice, from the other side, empty, of one entry.
-use mathlib.Core.Bool.{Bool, false, not, true}
-use mathlib.Core.List.{List, [], _++_, _∷_, reverse, reverse-cons, reverse-reverse}
+use mathlib.Core.{Bool.{Bool, false, not, true}, List.{List, [], _++_, _∷_, reverse, reverse-cons, reverse-reverse}}
 use mathlib.Core.Path.{_≡_, refl, sym}
 use Rattle.model.proofs.lists.Deque.{front, put, seen, took}
 

@@ -1,8 +1,5 @@
 -- Being in a list, and in a deque seen from a side.
-use mathlib.Core.Bool.{Bool, false, true}
-use mathlib.Core.List.{List, [], _∷_, reverseAux}
-use mathlib.Core.Logic.{_≢_, _⊎_, inl, inr}
-use mathlib.Core.Path.{_≡_}
+use mathlib.Core.{Bool.{Bool, false, true}, List.{List, [], _∷_, reverseAux}, Logic.{_≢_, _⊎_, inl, inr}, Path._≡_}
 use Prim.Native.Nat.{ℕ}
 use Rattle.model.proofs.lists.Deque.{front, put, rest, seen, took}
 

@@ -1,14 +1,10 @@
 -- A list of different numbers from 1 to n has at most n entries.
-use mathlib.Core.{Bool.cond, Logic._≢_}
-use mathlib.Core.List.{List, [], _∷_}
-use mathlib.Core.Path.{_∙_, sym}
+use mathlib.Core.{Bool.cond, Logic._≢_, List.{List, [], _∷_}, Path.{_∙_, sym}}
 use Prim.Native.Nat.{_≤_, suc, zero, ℕ}
 use native.Mathlib.Omega.{arith}
 use lib.{Dec.eqb, ListN.length}
 use borrow.Author.Tests.{eqb-false, eqb-true}
-use Rattle.model.proofs.tests.Truth.{by-test}
-use Rattle.model.proofs.lists.All.{all-both, all-map}
-use Rattle.model.proofs.lists.Deque.{Distinct}
+use Rattle.model.proofs.{tests.Truth.by-test, lists.{All.{all-both, all-map}, Deque.Distinct}}
 use Rattle.model.specs.Lists.{All}
 
 remove : ℕ → List ℕ → List ℕ

@@ -1,12 +1,9 @@
 -- The numbers from k on, n of them; and the list that leads each of them to the next one.
-use mathlib.Core.List.{List, [], _++_, _∷_}
-use mathlib.Core.Logic.{_≢_, _⊎_, inl, inr}
-use mathlib.Core.Path.{_≡_, refl, ap}
+use mathlib.Core.{List.{List, [], _++_, _∷_}, Logic.{_≢_, _⊎_, inl, inr}, Path.{_≡_, refl, ap}}
 use Prim.Native.Nat.{_+_, _<_, _≤_, suc, zero, ℕ}
 use native.Mathlib.Omega.{arith}
 use lib.ListN.{length, getD}
-use Rattle.model.proofs.tests.Truth.{decide-eq}
-use Rattle.model.proofs.lists.{All.all-map, Deque.Distinct, In.In}
+use Rattle.model.proofs.{tests.Truth.decide-eq, lists.{All.all-map, Deque.Distinct, In.In}}
 use Rattle.model.specs.Lists.{All, climb}
 
 abbrev pub range : ℕ → ℕ → List ℕ

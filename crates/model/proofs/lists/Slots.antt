@@ -1,11 +1,8 @@
 -- The slots of a list of entries.
-use mathlib.Core.Bool.{Bool, false, true}
-use mathlib.Core.List.{List, [], _∷_, map, reverseAux}
-use mathlib.Core.Path.{_∙_, _≡_, ap, refl}
+use mathlib.Core.{Bool.{Bool, false, true}, List.{List, [], _∷_, map, reverseAux}, Path.{_∙_, _≡_, ap, refl}}
 use Prim.Native.Nat.{ℕ}
-use Rattle.model.specs.declared.Entry.{Entry}
+use Rattle.model.specs.{declared.Entry.Entry, Lists.All}
 use Rattle.model.proofs.lists.Deque.{put, rest, seen, took}
-use Rattle.model.specs.Lists.{All}
 
 abbrev pub slots : List Entry → List ℕ
 slots q = map (λ (e : Entry). e .slot) q

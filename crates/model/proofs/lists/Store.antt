@@ -1,6 +1,5 @@
 -- An element put back where it lay changes nothing.
-use mathlib.Core.List.{List, [], _∷_}
-use mathlib.Core.Path.{_≡_, ap, refl}
+use mathlib.Core.{List.{List, [], _∷_}, Path.{_≡_, ap, refl}}
 use Prim.Native.Nat.{suc, zero, ℕ}
 use lib.ListN.{getD, set}
 

@@ -1,15 +1,13 @@
 -- A step answers running and stays busy, or answers and is idle.
-use mathlib.Core.Bool.{Bool, false, true}
-use mathlib.Core.Path.{_∙_, _≡_, ap, refl}
-use Rattle.model.proofs.tests.Truth.{not-both}
-use Rattle.model.proofs.machine.Machine.{Answer, Move, Place, Rec, Shared, act, empty, isIdle, noSlot, popped, pushed, rests, running}
-use Rattle.model.proofs.machine.ByStep.{by-step}
+use mathlib.Core.{Bool.{Bool, false, true}, Path.{_∙_, _≡_, ap, refl}}
+use Rattle.model.proofs.{tests.Truth.not-both, machine.{Machine.{popped, pushed, running}, ByStep.by-step}}
+use Rattle.model.proofs.machine.Machine.{Answer, Move, Place, Rec, Shared, act, empty, isIdle, noFreeSlot, rests}
 
 abbrev pub EndsAt : Answer → Bool → Type 0
 EndsAt running b = b ≡ false
 EndsAt pushed b = b ≡ true
 EndsAt empty b = b ≡ true
-EndsAt noSlot b = b ≡ true
+EndsAt noFreeSlot b = b ≡ true
 EndsAt (popped x l) b = b ≡ true
 
 pub record Ends (m : Move) : Type 0 where

@@ -1,13 +1,11 @@
 -- The book beside the decoded machine: the sequential deque, which serves a call at each of its effects, and how many effects each call had.
-use mathlib.Core.Bool.{Bool, _&&_, _||_, cond, false, not, true}
-use mathlib.Core.List.{List, [], _∷_}
-use mathlib.Core.Path.{_≡_}
+use mathlib.Core.{Bool.{Bool, _&&_, _||_, cond, false, not, true}, List.{List, [], _∷_}, Path._≡_}
 use Prim.Native.Nat.{suc, ℕ}
 use lib.Dec.{eqb}
 use Rattle.model.specs.declared.Entry.{Entry}
-use Rattle.model.proofs.lists.Deque.{put, seen, took}
-use Rattle.model.proofs.machine.Machine.{Anchor, Answer, Kind, State, Status, Touch, clear, empty, noSlot, none, pop, popped, push}
-use Rattle.model.proofs.machine.Machine.{pushed, pushing, putAnchor, putHead, putLink, putNext, running, stable, take, upd}
+use Rattle.model.proofs.{lists.Deque.{put, seen, took}, machine.Machine.{putNext, running, stable, take, upd}}
+use Rattle.model.proofs.machine.Machine.{Anchor, Answer, Kind, State, Status, Touch, clear, empty, noFreeSlot}
+use Rattle.model.proofs.machine.Machine.{none, pop, popped, push, pushed, pushing, putAnchor, putHead, putLink}
 
 -- A call: what its start named, the number of its effects so far, and what the sequential deque replied last.
 pub record BookCall : Type 0 where
@@ -54,15 +52,15 @@ abbrev pub unmoving : Answer → Bool
 unmoving running = false
 unmoving pushed = false
 unmoving empty = true
-unmoving noSlot = true
+unmoving noFreeSlot = true
 unmoving (popped x l) = false
 
-abbrev pub isNoSlot : Answer → Bool
-isNoSlot running = false
-isNoSlot pushed = false
-isNoSlot empty = false
-isNoSlot noSlot = true
-isNoSlot (popped x l) = false
+abbrev pub isNoFreeSlot : Answer → Bool
+isNoFreeSlot running = false
+isNoFreeSlot pushed = false
+isNoFreeSlot empty = false
+isNoFreeSlot noFreeSlot = true
+isNoFreeSlot (popped x l) = false
 
 -- An effect is seen from Anchor's ends and the answer.
 abbrev pub effect : Anchor → Anchor → Answer → Bool
@@ -71,7 +69,7 @@ effect a b w = not (eqb (a .left) (b .left) && eqb (a .right) (b .right)) || unm
 -- To *no slot* the sequential deque replies the same, and stays as it is.
 unfoldable pub noted : BookCall → List Entry → Anchor → Anchor → Answer → Noted
 noted c q a b w =
-    cond (effect a b w) (cond (isNoSlot w) (record { call = told c noSlot; queue = q }) (served (c .kind) c q)) (record { call = c; queue = q })
+    cond (effect a b w) (cond (isNoFreeSlot w) (record { call = told c noFreeSlot; queue = q }) (served (c .kind) c q)) (record { call = c; queue = q })
 
 -- A push that draws its slot has named it from then on.
 abbrev pub granted : Touch → BookCall → BookCall
@@ -94,7 +92,7 @@ abbrev pub stepped : Book → ℕ → Noted → Answer → Book
 stepped b t n running = stays b t n
 stepped b t n pushed = closes b t n pushed
 stepped b t n empty = closes b t n empty
-stepped b t n noSlot = closes b t n noSlot
+stepped b t n noFreeSlot = closes b t n noFreeSlot
 stepped b t n (popped x l) = closes b t n (popped x l)
 
 abbrev pub begun : Book → ℕ → BookCall → Book

@@ -1,7 +1,5 @@
 -- What holds of each kind of move that a record makes at a place holds of its step.
-use mathlib.Core.Bool.{Bool, false, not, true}
-use mathlib.Core.Logic.{_⊎_, inl, inr}
-use mathlib.Core.Path.{_≡_, ap, refl, sym}
+use mathlib.Core.{Bool.{Bool, false, not, true}, Logic.{_⊎_, inl, inr}, Path.{_≡_, ap, refl, sym}}
 use Prim.Native.Nat.{suc, ℕ}
 use lib.Dec.{eqb}
 use Rattle.model.proofs.tests.Truth.{by-test, not-both}
@@ -43,7 +41,7 @@ module _ (s : M.Shared) (r : M.Rec) (Q : M.Place → Type 0) (P : M.Move → Typ
     pub ten-last : Q M.at10 → now ≡ true → r .finishing ≡ true → P (M.ends (M.putAnchor (M.settled (r .read))) M.pushed)
     pub eleven : Q M.at11 → let x = M.tip (r .read) (r .side) in P (M.ends (M.clear x) (M.popped x (s .label x)))
     pub keeps : Q M.at11 → let x = M.tip (r .read) (r .side) in P (M.runs (M.clear x) (M.owns r x (s .label x) (M.give M.at15)))
-    pub lacks : Q (M.draw M.at12) → M.exhausted (s .head) ≡ true → P (M.ends M.none M.noSlot)
+    pub lacks : Q (M.draw M.at12) → M.exhausted (s .head) ≡ true → P (M.ends M.none M.noFreeSlot)
     pub draws : Q (M.draw M.at14) → top ≡ true → let x = r .link .slot in
         P (M.runs (M.take (M.raised r (r .near)) x (r .label)) (M.owns r x (r .label) M.at1))
     pub links : Q (M.give M.at16) → P (M.runs (M.putNext (r .own) (r .link .slot)) (M.goes r (M.give M.at17)))

@@ -1,13 +1,11 @@
 -- Stores in the decoded tables, comparisons of Anchors and links, and the ends of a changed Anchor.
-use mathlib.Core.Bool.{Bool, false, not, true}
-use mathlib.Core.Logic.{_≢_}
-use mathlib.Core.Path.{_≡_, ap, refl, subst}
+use mathlib.Core.{Bool.{Bool, false, not, true}, Logic._≢_, Path.{_≡_, ap, refl, subst}}
 use Prim.Native.Nat.{_<_, suc, ℕ}
 use native.Mathlib.Omega.{arith}
 use borrow.Author.Tests.{eq-eqb, eqb-true, ne-eqb}
 use Rattle.model.proofs.tests.Truth.{and-true, not-both}
-use Rattle.model.proofs.machine.Machine.{Anchor, Link, Status, aimed, both, code, pushing, relink, same, sameLink, stable, tip, towards, upd}
-use Rattle.model.proofs.machine.Machine.{exhausted}
+use Rattle.model.proofs.machine.Machine.{Anchor, Link, Status, aimed, both, code, pushing, relink, same, stable}
+use Rattle.model.proofs.machine.Machine.{sameLink, tip, towards, upd, exhausted}
 
 pub upd-same : {A : Type 0} (f : ℕ → A) (x : ℕ) (v : A) → upd f x v x ≡ v
 unfolding upd

@@ -1,12 +1,9 @@
 -- The tags of links after a store: kept, or grown at one link.
-use mathlib.Core.Bool.{Bool, false, true}
-use mathlib.Core.Logic.{_≢_, _⊎_, inl, inr}
-use mathlib.Core.Path.{_∙_, _≡_, ap, subst, sym}
+use mathlib.Core.{Bool.{Bool, false, true}, Logic.{_≢_, _⊎_, inl, inr}, Path.{_∙_, _≡_, ap, subst, sym}}
 use Prim.Native.Nat.{_<_, _≤_, ℕ}
 use native.Mathlib.Omega.{arith}
 use Rattle.model.proofs.tests.Truth.{decide-eq}
-use Rattle.model.proofs.machine.Laws.{relink-across, relink-other, relink-same}
-use Rattle.model.proofs.machine.Machine.{Link, relink}
+use Rattle.model.proofs.machine.{Laws.{relink-across, relink-other, relink-same}, Machine.{Link, relink}}
 
 -- The tags of a link table after a store.
 pub relink-keeps : (k : Bool → ℕ → Link) (d : Bool) (x : ℕ) (v : Link) → v .tag ≡ k d x .tag → (e : Bool) (y : ℕ) → relink k d x v e y .tag ≡ k e y .tag

@@ -11,7 +11,7 @@ pub use Rattle.model.proofs.machine.Records.{pop, Phase, phase, outside
 unfoldable pub use Rattle.model.proofs.machine.Records.{same, sameLink, upd, relink}
 
 pub data Answer : Type 0 where
-  running pushed empty noSlot : Answer
+  running pushed empty noFreeSlot : Answer
   popped : ℕ → ℕ → Answer
 
 -- What a step may change: one shared word, but where a slot is drawn. Then the head, the slot's label and its mark are set at once.
@@ -101,7 +101,7 @@ exhausted head = eqb (head .slot) 0
 
 -- 12: read the head; slot 0 is the empty stack. 13: read what comes after the head's slot. 14: the head moves on to it, and its slot is the push's.
 abbrev pub draws : Draw → Shared → Rec → Move
-draws at12 s r = cond (exhausted (s .head)) (ends none noSlot) (runs none (holds r (s .head) (draw at13)))
+draws at12 s r = cond (exhausted (s .head)) (ends none noFreeSlot) (runs none (holds r (s .head) (draw at13)))
 draws at13 s r = runs none (finds r (s .next (r .link .slot)) (draw at14))
 draws at14 s r = let x = r .link .slot in
     cond (sameLink (r .link) (s .head)) (runs (take (raised r (r .near)) x (r .label)) (owns r x (r .label) at1)) (runs none (goes r (draw at12)))

@@ -2,10 +2,9 @@
 use mathlib.Core.Bool.{Bool, false, true}
 use Prim.Native.Nat.{_≤_, ℕ}
 use native.Mathlib.Omega.{arith}
-use Rattle.model.proofs.machine.Book.{Both, BookCall}
-use Rattle.model.proofs.machine.Machine.{Kind, Place, Rec, Shared, at1, at10, at11, at2, at3, at4, at5, at6, at7, at8, at9, draw, give, idle}
-use Rattle.model.proofs.invariant.{Invariant.Inv, Owners.Owner}
-use Rattle.model.proofs.invariant.Tasks.{Stage, Task}
+use Rattle.model.proofs.machine.{Book.{Both, BookCall}, Machine.{at8, at9, draw, give, idle}}
+use Rattle.model.proofs.machine.Machine.{Kind, Place, Rec, Shared, at1, at10, at11, at2, at3, at4, at5, at6, at7}
+use Rattle.model.proofs.invariant.{Invariant.Inv, Owners.Owner, Tasks.{Stage, Task}}
 
 staged : (f : Bool) (g : ℕ → ℕ) (h : ℕ → Owner) (t : ℕ) (k : Kind) (d : Bool) (x l : ℕ) (c : BookCall) → Stage f g h t k d x l c → c .effects ≤ 1
 staged false g h t k d x l c w = omega (arith, w .none)

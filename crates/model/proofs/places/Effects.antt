@@ -1,15 +1,12 @@
 -- Where effects fall, and what the book then notes.
-use mathlib.Core.Bool.{Bool, _&&_, _||_, false, not, true}
-use mathlib.Core.{List.List, Logic._≢_}
-use mathlib.Core.Path.{_∙_, _≡_, ap, refl, sym}
+use mathlib.Core.{Bool.{Bool, _&&_, _||_, false, not, true}, List.List, Logic._≢_, Path.{_∙_, _≡_, ap, refl, sym}}
 use Prim.Native.Nat.{ℕ}
 use lib.Dec.{eqb}
 use borrow.Author.Tests.{eq-eqb, ne-eqb}
 use Rattle.model.specs.declared.Entry.{Entry}
-use Rattle.model.proofs.tests.Truth.{or-second}
-use Rattle.model.proofs.lists.Deque.{put, seen, took}
-use Rattle.model.proofs.machine.Book.{BookCall, effect, given, isNoSlot, noted, served, told, unmoving}
-use Rattle.model.proofs.machine.Machine.{Anchor, Answer, Kind, Status, aimed, empty, noSlot, pop, push, pushed, tip}
+use Rattle.model.proofs.{tests.Truth.or-second, lists.Deque.{put, seen, took}, machine.Machine.pushed}
+use Rattle.model.proofs.machine.Book.{BookCall, effect, given, isNoFreeSlot, noted, served, told, unmoving}
+use Rattle.model.proofs.machine.Machine.{Anchor, Answer, Kind, Status, aimed, empty, noFreeSlot, pop, push, tip}
 use Rattle.model.proofs.invariant.Tasks.{Agrees}
 
 pub noted-false : (c : BookCall) (q : List Entry) (a b : Anchor) (w : Answer) → effect a b w ≡ false → noted c q a b w ≡ record { call = c; queue = q }
@@ -33,7 +30,7 @@ pub empty-effect : (a b : Anchor) → effect a b empty ≡ true
 empty-effect a b = or-second (not (eqb (a .left) (b .left) && eqb (a .right) (b .right))) refl
 
 -- *No slot*: the sequential deque replies the same, and stays as it is.
-pub noted-none : (c : BookCall) (q : List Entry) (a b : Anchor) → noted c q a b noSlot ≡ record { call = told c noSlot; queue = q }
+pub noted-none : (c : BookCall) (q : List Entry) (a b : Anchor) → noted c q a b noFreeSlot ≡ record { call = told c noFreeSlot; queue = q }
 unfolding noted
 noted-none c q a b = rw (or-second (not (eqb (a .left) (b .left) && eqb (a .right) (b .right))) refl)
 
@@ -42,7 +39,7 @@ aimed-effect a false x st w h = left-effect a (aimed a false x st) w (λ e. h (s
 aimed-effect a true x st w h = right-effect a (aimed a true x st) w (λ e. h (sym e))
 
 module _ {k : Kind} {d : Bool} {x l : ℕ} (c : BookCall) (g : Agrees k d x l c) (q : List Entry) (a b : Anchor) (w : Answer) (e : effect a b w ≡ true)
-    (n : isNoSlot w ≡ false) where
+    (n : isNoFreeSlot w ≡ false) where
   pub noted-push : k ≡ push → noted c q a b w ≡ record { call = told c pushed; queue = put d (record { slot = x; label = l }) q }
   unfolding noted
   noted-push p = rw (e, n) (ap (λ (z : Kind). served z c q) (g .kind ∙ p)

@@ -1,15 +1,10 @@
 -- How a step keeps line 21: the marks go with the owners.
-use mathlib.Core.Bool.{Bool, false, not}
-use mathlib.Core.Logic.{_≢_, _⊎_, inl, inr}
-use mathlib.Core.Path.{_∙_, _≡_, ap, refl, subst, sym}
+use mathlib.Core.{Bool.{Bool, false, not}, Logic.{_≢_, _⊎_, inl, inr}, Path.{_∙_, _≡_, ap, refl, subst, sym}}
 use Prim.Native.Nat.{ℕ}
-use Rattle.model.proofs.tests.Truth.{decide-eq, not-both}
-use Rattle.model.proofs.machine.Book.{BookCall}
-use Rattle.model.proofs.machine.Laws.{upd-other, upd-same}
-use Rattle.model.proofs.machine.Machine.{Move, Place, Rec, Shared, apply, at1, at10, at11, at2, at3, at4, at5, at6, at7, at8, at9}
-use Rattle.model.proofs.machine.Machine.{draw, give, idle, isGiving, upd}
-use Rattle.model.proofs.invariant.Owners.{Owner, free, held, queued, shows}
-use Rattle.model.proofs.invariant.Tasks.{Task}
+use Rattle.model.proofs.{tests.Truth.{decide-eq, not-both}, machine.{Book.BookCall, Laws.{upd-other, upd-same}}}
+use Rattle.model.proofs.machine.Machine.{Move, Place, Rec, Shared, apply, at1, at10, at11, at2, at3, at4, at5}
+use Rattle.model.proofs.machine.Machine.{at6, at7, at8, at9, draw, give, idle, isGiving, upd}
+use Rattle.model.proofs.invariant.{Owners.{Owner, free, held, queued, shows}, Tasks.Task}
 
 -- In a named queue no task gives its slot back.
 pub none-giving : (s : Shared) (h : ℕ → Owner) (t : ℕ) (r : Rec) (c : BookCall) → s .pooled ≡ false → (p : Place) → Task p s h t r c → isGiving p ≡ false

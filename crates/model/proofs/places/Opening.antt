@@ -1,16 +1,10 @@
 -- The invariant holds of an empty queue whose tasks are idle and whose free slots, all of them, are told apart.
-use mathlib.Core.Bool.{false, true}
-use mathlib.Core.List.{[]}
-use mathlib.Core.Path.{_≡_, refl, subst, sym}
+use mathlib.Core.{Bool.{false, true}, List.[], Path.{_≡_, refl, subst, sym}}
 use Prim.Native.Nat.{_+_, _<_, _≤_, suc, zero, ℕ}
 use native.Mathlib.Omega.{arith}
-use Rattle.model.proofs.lists.All.{all-map}
-use Rattle.model.proofs.lists.Range.{in-range, range, range-bounds, range-distinct}
-use Rattle.model.proofs.machine.Book.{noBook, noCall}
-use Rattle.model.proofs.machine.Machine.{Rec, Shared, idle, stable}
-use Rattle.model.proofs.invariant.{Invariant.Inv, Tasks.Task}
-use Rattle.model.proofs.invariant.Owners.{Pool, Spare, Stack, free}
-use Rattle.model.proofs.chain.Sides.{under}
+use Rattle.model.proofs.lists.{All.all-map, Range.{in-range, range, range-bounds, range-distinct}}
+use Rattle.model.proofs.{machine.{Book.{noBook, noCall}, Machine.{Rec, Shared, idle, stable}}, chain.Sides.under}
+use Rattle.model.proofs.invariant.{Invariant.Inv, Tasks.Task, Owners.{Pool, Spare, Stack, free}}
 use Rattle.model.proofs.places.Owned.{held-free, queued-free}
 use Rattle.model.specs.Lists.{All}
 

@@ -1,21 +1,15 @@
 -- A step of one task keeps what holds of another's record. (Lines 5 to 13 and 18 to 20 survive; at 9 by `outrun`.)
-use mathlib.Core.Bool.{Bool, false, not, true}
-use mathlib.Core.List.{List}
-use mathlib.Core.Logic.{_⊎_, inl, inr}
-use mathlib.Core.Path.{_∙_, _≡_, ap, subst, sym}
+use mathlib.Core.{Bool.{Bool, false, not, true}, List.List, Logic.{_⊎_, inl, inr}, Path.{_∙_, _≡_, ap, subst, sym}}
 use Prim.Native.Nat.{_<_, ℕ}
 use native.Mathlib.Omega.{arith}
 use Rattle.model.specs.declared.Entry.{Entry}
-use Rattle.model.proofs.lists.Slots.{slots}
-use Rattle.model.proofs.machine.Book.{BookCall}
-use Rattle.model.proofs.machine.Machine.{Anchor, Draw, Give, Kind, Link, Place, Rec, Shared, at1, at10, at11, at12, at13, at14, at15, at16}
-use Rattle.model.proofs.machine.Machine.{at17, at2, at3, at4, at5, at6, at7, at8, at9, draw, give, idle, inner, pop, push, pushing, tip}
-use Rattle.model.proofs.invariant.Owners.{Owner, Intact, held, queued}
-use Rattle.model.proofs.invariant.Rely.{Faces, Quiet, Rely, Turned}
-use Rattle.model.proofs.invariant.Shape.{Made}
-use Rattle.model.proofs.invariant.Tasks.{Bare, Before, Drawing, At8, Four, Fourteenth, Fresh, Giving, Grown, Helps, Live, Near}
-use Rattle.model.proofs.invariant.Tasks.{At9, Other, Own, Read, Stage, Task, At13, Three, Tries, way}
-use Rattle.model.proofs.chain.Links.{inner-in}
+use Rattle.model.proofs.{lists.Slots.slots, invariant.Rely.{Faces, Quiet, Rely, Turned}, chain.Links.inner-in}
+use Rattle.model.proofs.invariant.{Shape.Made, Tasks.Tries, Owners.{Owner, Intact, held, queued}}
+use Rattle.model.proofs.invariant.Tasks.{way, Bare, Before, Drawing, At8, Four, Fourteenth, Fresh, Giving, Grown}
+use Rattle.model.proofs.invariant.Tasks.{At9, Helps, Live, Near, Other, Own, Read, Stage, Task, At13, Three}
+use Rattle.model.proofs.machine.{Book.BookCall, Machine.{at15, at16, at17, at2, at3, at4, at5, at6, at7, at8}}
+use Rattle.model.proofs.machine.Machine.{at9, draw, give, idle, inner, pop, push, pushing, tip, Anchor, Draw}
+use Rattle.model.proofs.machine.Machine.{Give, Kind, Link, Place, Rec, Shared, at1, at10, at11, at12, at13, at14}
 
 module _ (u : ℕ) (s : Shared) (h : ℕ → Owner) (s′ : Shared) (h′ : ℕ → Owner) (y : Rely u s h s′ h′) where
   keep-bare : Bare h u → Bare h′ u
@@ -51,7 +45,7 @@ module _ (u : ℕ) (s : Shared) (h : ℕ → Owner) (s′ : Shared) (h′ : ℕ 
 
     keep-tries : {f : Bool} {k : Kind} {d : Bool} {x l : ℕ} {c : BookCall} → Tries (s .label) (s .anchor) h u f k d x l a c
         → Tries (s′ .label) (s′ .anchor) h′ u f k d x l a c
-    keep-tries w = record { early = w .early; before = keep-before (w .before); read = keep-read (w .read) }
+    keep-tries w = record { unfinished = w .unfinished; before = keep-before (w .before); read = keep-read (w .read) }
 
     keep-helps : {f : Bool} {k : Kind} {d : Bool} {x l : ℕ} {c : BookCall} → Helps (s .label) (s .anchor) h u f k d x l a c
         → Helps (s′ .label) (s′ .anchor) h′ u f k d x l a c
@@ -195,7 +189,7 @@ module _ (u : ℕ) (s : Shared) (h : ℕ → Owner) (s′ : Shared) (h′ : ℕ 
   keep q all (draw p) r c w = (
     y .stack .pooled ∙ w .0,
     record {
-      early = w .1 .early;
+      unfinished = w .1 .unfinished;
       kind = w .1 .kind;
       agrees = w .1 .agrees;
       none = w .1 .none;

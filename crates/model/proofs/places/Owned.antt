@@ -1,13 +1,9 @@
 -- Owners differ, and a new owner of a slot takes it from no other task, nor from the free ones.
-use mathlib.Core.Bool.{Bool, false, true}
-use mathlib.Core.Logic.{_≢_, _⊎_, inl, inr}
-use mathlib.Core.Path.{_∙_, _≡_, ap, sym}
+use mathlib.Core.{Bool.{Bool, false, true}, Logic.{_≢_, _⊎_, inl, inr}, Path.{_∙_, _≡_, ap, sym}}
 use Prim.Native.Nat.{ℕ}
 use native.Mathlib.Omega.{arith}
-use Rattle.model.proofs.tests.Truth.{decide-eq}
-use Rattle.model.proofs.lists.All.{all-map}
-use Rattle.model.proofs.machine.Laws.{upd-other, upd-same}
-use Rattle.model.proofs.machine.Machine.{pop, push, upd}
+use Rattle.model.proofs.{tests.Truth.decide-eq, lists.All.all-map}
+use Rattle.model.proofs.machine.{Laws.{upd-other, upd-same}, Machine.{pop, push, upd}}
 use Rattle.model.proofs.invariant.Owners.{Owner, Spare, free, held, queued}
 
 pub held-inj : {t u : ℕ} → held t ≡ held u → t ≡ u

@@ -1,23 +1,15 @@
 -- A slot changes hands outside the queue: a push gets a free one (a named start, place 14), a pop gives one up (11 named, 17).
 -- How either learns or tells that it is free (`Spare`), and what becomes of the head, is for these places to say.
-use mathlib.Core.Bool.{Bool, false, not, true}
-use mathlib.Core.List.{List}
-use mathlib.Core.Logic.{_≢_, _⊎_, inl, inr}
-use mathlib.Core.Path.{_∙_, _≡_, ap, refl, sym}
+use mathlib.Core.{Bool.{Bool, false, not, true}, List.List, Logic.{_≢_, _⊎_, inl, inr}, Path.{_∙_, _≡_, ap, refl, sym}}
 use Prim.Native.Nat.{_≤_, ℕ}
 use native.Mathlib.Omega.{arith}
 use Rattle.model.specs.declared.Entry.{Entry}
-use Rattle.model.proofs.tests.Truth.{decide-eq}
-use Rattle.model.proofs.lists.All.{all-both, all-map}
-use Rattle.model.proofs.lists.Slots.{all-slots, slots}
-use Rattle.model.proofs.machine.Laws.{upd-other, upd-same}
+use Rattle.model.proofs.{tests.Truth.decide-eq, lists.{All.{all-both, all-map}, Slots.{all-slots, slots}}}
+use Rattle.model.proofs.{machine.Laws.{upd-other, upd-same}, invariant.Rely.{Rely, Stacked}}
 use Rattle.model.proofs.machine.Machine.{Link, Rec, Shared, isGiving, runs, take, upd, withHead, withLabel}
-use Rattle.model.proofs.invariant.Owners.{Owner, Spare, Intact, free, held, queued, shows}
-use Rattle.model.proofs.invariant.Rely.{Rely, Stacked}
-use Rattle.model.proofs.invariant.Tasks.{Bare, Sole}
-use Rattle.model.proofs.places.Marking.{Marked, marked-at, shows-own}
+use Rattle.model.proofs.invariant.{Owners.{Owner, Spare, Intact, free, held, queued, shows}, Tasks.{Bare, Sole}}
+use Rattle.model.proofs.places.{Marking.{Marked, marked-at, shows-own}, Shown.marking}
 use Rattle.model.proofs.places.Owned.{held-free, held-inj, owner-back, owner-kept, queued-free, queued-held}
-use Rattle.model.proofs.places.Shown.{marking}
 
 -- A free slot x gets an owner, t, and a label; the head is w then.
 module _ {s : Shared} {h : ℕ → Owner} {q : List Entry} (all : Intact s h q) (t x l : ℕ) (unowned : h x ≡ free) (w : Link) where

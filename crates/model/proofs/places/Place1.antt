@@ -1,23 +1,15 @@
 -- Place 1: Anchor is read. Empty is the effect of a pop on an empty queue.
-use mathlib.Core.Bool.{false, true}
-use mathlib.Core.List.{List, []}
-use mathlib.Core.Path.{_∙_, _≡_, ap, refl, subst, sym}
+use mathlib.Core.{Bool.{false, true}, List.{List, []}, Path.{_∙_, _≡_, ap, refl, subst, sym}}
 use Prim.Native.Nat.{suc, ℕ}
 use lib.Dec.{eqb}
 use borrow.Author.Tests.{eqb-false, eqb-true}
 use Rattle.model.specs.declared.Entry.{Entry}
-use Rattle.model.proofs.tests.Truth.{by-test}
-use Rattle.model.proofs.lists.Deque.{seen, took}
-use Rattle.model.proofs.lists.Ends.{seen-nil, took-nil}
-use Rattle.model.proofs.lists.Slots.{slots, slots-nil}
-use Rattle.model.proofs.machine.Book.{BookCall, given, told}
-use Rattle.model.proofs.machine.Machine.{Kind, Rec, Shared, Status, at1, at5, empty, ends, isStable, none, one, pop, push, pushing}
-use Rattle.model.proofs.machine.Machine.{reads, runs, stable, towards}
-use Rattle.model.proofs.invariant.Owners.{Owner, Intact}
-use Rattle.model.proofs.invariant.Tasks.{Before, Own, Stage, Task, Three, Tries, Two}
-use Rattle.model.proofs.chain.Ends.{no-entry}
-use Rattle.model.proofs.places.Effects.{empty-effect, noted-pop}
-use Rattle.model.proofs.places.{Marking.marked-kept, Owned.push-pop}
+use Rattle.model.proofs.{tests.Truth.by-test, machine.Book.{BookCall, given, told}, chain.Ends.no-entry}
+use Rattle.model.proofs.lists.{Deque.{seen, took}, Ends.{seen-nil, took-nil}, Slots.{slots, slots-nil}}
+use Rattle.model.proofs.machine.Machine.{Kind, Rec, Shared, Status, at1, at5, empty, ends, isStable, none, one}
+use Rattle.model.proofs.machine.Machine.{pop, push, pushing, reads, runs, stable, towards}
+use Rattle.model.proofs.invariant.{Owners.{Owner, Intact}, Tasks.{Before, Own, Stage, Task, Three, Tries, Two}}
+use Rattle.model.proofs.places.{Effects.{empty-effect, noted-pop}, Marking.marked-kept, Owned.push-pop}
 use Rattle.model.proofs.places.Shown.{Shown, effective, read-now, rely-refl, still}
 
 -- A status that is not stable.
@@ -35,7 +27,7 @@ module _ (t : ℕ) (s : Shared) (h : ℕ → Owner) (q : List Entry) (c : BookCa
 
   tries-now : r .finishing ≡ false → Before (s .label) h t (r .kind) (r .side) (r .own) (r .label) c
       → Tries (s .label) (s .anchor) h t (r .finishing) (r .kind) (r .side) (r .own) (r .label) (s .anchor) c
-  tries-now e b = record { early = e; before = b; read = read-now (s .anchor) }
+  tries-now e b = record { unfinished = e; before = b; read = read-now (s .anchor) }
 
   helps-now : r .finishing ≡ false → Before (s .label) h t (r .kind) (r .side) (r .own) (r .label) c → isStable (s .anchor .status) ≡ false
       → Shown t s h q c (runs none (reads r (s .anchor) at5))

@@ -1,20 +1,13 @@
 -- Place 10: with the link back made the queue is STABLE.
-use mathlib.Core.{Bool.true, List.List}
-use mathlib.Core.Path.{_∙_, _≡_, ap, refl, subst, sym}
+use mathlib.Core.{Bool.true, List.List, Path.{_∙_, _≡_, ap, refl, subst, sym}}
 use Prim.Native.Nat.{ℕ}
 use native.Mathlib.Omega.{arith}
 use Rattle.model.specs.declared.Entry.{Entry}
-use Rattle.model.proofs.tests.Truth.{by-test}
-use Rattle.model.proofs.lists.Slots.{slots}
-use Rattle.model.proofs.machine.Book.{BookCall}
-use Rattle.model.proofs.machine.Laws.{same-side, same-true}
-use Rattle.model.proofs.machine.Machine.{Anchor, Rec, Shared, act, at10, leave, pushing, putAnchor, same, settled}
-use Rattle.model.proofs.invariant.Owners.{Owner, Intact}
-use Rattle.model.proofs.invariant.Shape.{Made, Shape}
-use Rattle.model.proofs.invariant.Tasks.{Task, way}
-use Rattle.model.proofs.chain.Links.{settled-shape}
-use Rattle.model.proofs.places.Places5to8.{away}
-use Rattle.model.proofs.places.Shown.{Shown, leaves, rely-turn}
+use Rattle.model.proofs.{tests.Truth.by-test, lists.Slots.slots, chain.Links.settled-shape}
+use Rattle.model.proofs.machine.{Book.BookCall, Laws.{same-side, same-true}, Machine.settled}
+use Rattle.model.proofs.machine.Machine.{Anchor, Rec, Shared, act, at10, leave, pushing, putAnchor, same}
+use Rattle.model.proofs.invariant.{Owners.{Owner, Intact}, Shape.{Made, Shape}, Tasks.{Task, way}}
+use Rattle.model.proofs.places.{Places5to8.away, Shown.{Shown, leaves, rely-turn}}
 
 module _ (t : ℕ) (s : Shared) (h : ℕ → Owner) (q : List Entry) (c : BookCall) (all : Intact s h q) (r : Rec) where
   pub place10 : Task at10 s h t r c → Shown t s h q c (act at10 s r)

@@ -1,17 +1,11 @@
 -- Place 11: the label of the slot taken is read. In a named queue the slot is given up; in a pooled queue the task keeps it for 15 to 17.
-use mathlib.Core.Bool.{false, true}
-use mathlib.Core.{List.List, Logic._≢_}
-use mathlib.Core.Path.{_∙_, _≡_, ap, refl, subst, sym}
+use mathlib.Core.{Bool.{false, true}, List.List, Logic._≢_, Path.{_∙_, _≡_, ap, refl, subst, sym}}
 use Prim.Native.Nat.{ℕ}
 use Rattle.model.specs.declared.Entry.{Entry}
-use Rattle.model.proofs.tests.Truth.{by-test}
-use Rattle.model.proofs.machine.Book.{BookCall}
-use Rattle.model.proofs.machine.Laws.{upd-other, upd-same}
-use Rattle.model.proofs.machine.Machine.{Move, Rec, Shared, act, apply, at11, at15, clear, ends, give, owns, popped, running, runs, tip, upd}
-use Rattle.model.proofs.invariant.Owners.{Owner, Spare, Intact, free, shows}
-use Rattle.model.proofs.invariant.Tasks.{Task}
-use Rattle.model.proofs.places.Effects.{no-effect}
-use Rattle.model.proofs.places.Marking.{marked-at, shows-own}
+use Rattle.model.proofs.{tests.Truth.by-test, invariant.{Owners.{Owner, Spare, Intact, free, shows}, Tasks.Task}}
+use Rattle.model.proofs.machine.{Book.BookCall, Laws.{upd-other, upd-same}, Machine.{popped, running, runs, upd}}
+use Rattle.model.proofs.machine.Machine.{Move, Rec, Shared, act, apply, at11, at15, clear, ends, give, owns, tip}
+use Rattle.model.proofs.places.{Effects.no-effect, Marking.{marked-at, shows-own}}
 use Rattle.model.proofs.places.Owning.{frees-bare, frees-rely, frees-whole}
 use Rattle.model.proofs.places.Shown.{Shown, plain, rely-marks, stack-same}
 

@@ -1,28 +1,19 @@
 -- Place 2: the first entry is put, the only entry is taken.
-use mathlib.Core.Bool.{false, true}
-use mathlib.Core.List.{List, [], _∷_}
-use mathlib.Core.Logic.{_≢_}
-use mathlib.Core.Path.{_∙_, _≡_, ap, refl, subst, sym}
+use mathlib.Core.{Bool.{false, true}, List.{List, [], _∷_}, Logic._≢_, Path.{_∙_, _≡_, ap, refl, subst, sym}}
 use Prim.Native.Nat.{suc, ℕ}
 use Rattle.model.specs.declared.Entry.{Entry}
-use Rattle.model.proofs.tests.Truth.{by-test}
-use Rattle.model.proofs.lists.Deque.{put, rest, took}
-use Rattle.model.proofs.lists.Ends.{put-nil, took-one}
-use Rattle.model.proofs.lists.Slots.{slots}
-use Rattle.model.proofs.machine.Book.{BookCall}
-use Rattle.model.proofs.machine.Laws.{both-tip, later, same-true}
-use Rattle.model.proofs.machine.Machine.{Anchor, Kind, Rec, Shared, at11, at2, both, ends, goes, pop, push, pushed, putAnchor, running, runs, same, two}
-use Rattle.model.proofs.invariant.Owners.{Owner, Intact}
-use Rattle.model.proofs.invariant.Shape.{Shape}
-use Rattle.model.proofs.invariant.Tasks.{Own, Task, Two}
-use Rattle.model.proofs.chain.Changes.{first-shape, last-shape}
-use Rattle.model.proofs.chain.Ends.{both-null, no-entry, single, small}
+use Rattle.model.proofs.{tests.Truth.by-test, machine.{Book.BookCall, Laws.{both-tip, later, same-true}}}
+use Rattle.model.proofs.lists.{Deque.{put, rest, took}, Ends.{put-nil, took-one}, Slots.slots}
+use Rattle.model.proofs.machine.Machine.{Anchor, Kind, Rec, Shared, at11, at2, both, ends, goes, pop, push, runs}
+use Rattle.model.proofs.machine.Machine.{pushed, putAnchor, running, same, two}
+use Rattle.model.proofs.invariant.{Owners.{Owner, Intact}, Shape.Shape, Tasks.{Own, Task, Two}}
+use Rattle.model.proofs.chain.{Changes.{first-shape, last-shape}, Ends.{both-null, no-entry, single, small}}
 use Rattle.model.proofs.places.{Effects.left-effect, Place1.place1, Shown.Shown}
 use Rattle.model.proofs.places.Taking.{pop-good, push-good, put-bare}
 
 module _ (t : ℕ) (s : Shared) (h : ℕ → Owner) (q : List Entry) (c : BookCall) (all : Intact s h q) (r : Rec) where
   pub place2 : (k : Kind) → r .kind ≡ k → Task at2 s h t r c → Shown t s h q c (two k s r)
-  place2 push k w = by-test (Shown t s h q c) (same (r .read) (s .anchor)) ok (λ e. place1 t s h q c all r push k (w .0 .early, w .0 .before))
+  place2 push k w = by-test (Shown t s h q c) (same (r .read) (s .anchor)) ok (λ e. place1 t s h q c all r push k (w .0 .unfinished, w .0 .before))
     where
       ok : same (r .read) (s .anchor) ≡ true → Shown t s h q c (ends (putAnchor (both (r .read) (r .own))) pushed)
       ok z =
@@ -39,7 +30,7 @@ module _ (t : ℕ) (s : Shared) (h : ℕ → Owner) (q : List Entry) (c : BookCa
           (subst (λ b. Shape (s .link) (both b (r .own)) (r .own ∷ [])) (sym p)
           (first-shape (s .link) (s .anchor) (slots q) (all .shape) (r .own) e (o .0))))
           (refl, record { once = ap suc (w .0 .before .none); agrees = refl }, put-bare h t (r .own) (o .3)) refl
-  place2 pop k w = by-test (Shown t s h q c) (same (r .read) (s .anchor)) ok (λ e. place1 t s h q c all r pop k (w .0 .early, w .0 .before))
+  place2 pop k w = by-test (Shown t s h q c) (same (r .read) (s .anchor)) ok (λ e. place1 t s h q c all r pop k (w .0 .unfinished, w .0 .before))
     where
       ok : same (r .read) (s .anchor) ≡ true → Shown t s h q c (runs (putAnchor (both (r .read) 0)) (goes r at11))
       ok z =

@@ -1,22 +1,14 @@
 -- Place 3: a push links its own slot, which is in no queue; a pop reads a neighbour.
-use mathlib.Core.Bool.{Bool, not}
-use mathlib.Core.List.{List}
-use mathlib.Core.Logic.{_≢_, inl}
-use mathlib.Core.Path.{_∙_, _≡_, ap, refl, subst, sym}
+use mathlib.Core.{Bool.{Bool, not}, List.List, Logic.{_≢_, inl}, Path.{_∙_, _≡_, ap, refl, subst, sym}}
 use Prim.Native.Nat.{ℕ}
 use native.Mathlib.Omega.{arith}
 use Rattle.model.specs.declared.Entry.{Entry}
-use Rattle.model.proofs.lists.All.{all-front, all-map, all-seen}
-use Rattle.model.proofs.lists.{Deque.seen, Slots.slots}
-use Rattle.model.proofs.machine.{Book.BookCall, LinkTags.relink-keeps}
-use Rattle.model.proofs.machine.Laws.{relink-other, relink-same}
-use Rattle.model.proofs.machine.Machine.{Kind, Link, Rec, Shared, at3, inner, ownLink, pop, push, relink, running, three, tip, withLink}
-use Rattle.model.proofs.invariant.Owners.{Owner, Intact, held, queued}
-use Rattle.model.proofs.invariant.Rely.{Rely}
-use Rattle.model.proofs.invariant.Tasks.{Four, Own, Task}
-use Rattle.model.proofs.chain.Links.{frame-shape, inner-in}
-use Rattle.model.proofs.places.{Effects.no-effect, Marking.marked-kept}
-use Rattle.model.proofs.places.Owned.{held-inj, queued-held}
+use Rattle.model.proofs.lists.{All.{all-front, all-map, all-seen}, Deque.seen, Slots.slots}
+use Rattle.model.proofs.machine.{Book.BookCall, LinkTags.relink-keeps, Laws.{relink-other, relink-same}}
+use Rattle.model.proofs.machine.Machine.{Kind, Link, Rec, Shared, at3, inner, ownLink, pop, push, relink, three}
+use Rattle.model.proofs.{machine.Machine.{running, tip, withLink}, chain.Links.{frame-shape, inner-in}}
+use Rattle.model.proofs.invariant.{Owners.{Owner, Intact, held, queued}, Rely.Rely, Tasks.{Four, Own, Task}}
+use Rattle.model.proofs.places.{Effects.no-effect, Marking.marked-kept, Owned.{held-inj, queued-held}}
 use Rattle.model.proofs.places.Shown.{Shown, plain, stack-same, still}
 
 module _ (t : ℕ) (s : Shared) (h : ℕ → Owner) (q : List Entry) (c : BookCall) (all : Intact s h q) (r : Rec) where

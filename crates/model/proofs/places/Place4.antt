@@ -1,28 +1,20 @@
 -- Place 4: an entry is put at an end, the entry at an end is taken.
-use mathlib.Core.Bool.{false, true}
-use mathlib.Core.{List.List, Logic._≢_}
-use mathlib.Core.Path.{_∙_, _≡_, ap, refl, subst, sym}
+use mathlib.Core.{Bool.{false, true}, List.List, Logic._≢_, Path.{_∙_, _≡_, ap, refl, subst, sym}}
 use Prim.Native.Nat.{_<_, suc, ℕ}
 use Rattle.model.specs.declared.Entry.{Entry}
-use Rattle.model.proofs.tests.Truth.{by-test}
-use Rattle.model.proofs.lists.Deque.{put, took}
-use Rattle.model.proofs.lists.Slots.{slots}
+use Rattle.model.proofs.{tests.Truth.by-test, lists.{Deque.{put, took}, Slots.slots}}
 use Rattle.model.proofs.machine.Book.{BookCall, effect}
 use Rattle.model.proofs.machine.Laws.{aimed-near, aimed-tag, aimed-way, later, same-true}
-use Rattle.model.proofs.machine.Machine.{Anchor, Kind, Rec, Shared, aimed, at11, at4, finishes, four, goes, inner, pop, push}
-use Rattle.model.proofs.machine.Machine.{pushing, putAnchor, running, runs, same, stable, tip}
-use Rattle.model.proofs.invariant.Owners.{Owner, Intact}
-use Rattle.model.proofs.invariant.Shape.{Shape}
-use Rattle.model.proofs.invariant.Tasks.{Four, Own, Task, Three}
-use Rattle.model.proofs.chain.Changes.{inner-apart, pop-shape, push-shape}
-use Rattle.model.proofs.chain.Ends.{both-null, ends-real}
-use Rattle.model.proofs.places.{Effects.aimed-effect, Place1.place1, Owned.queued-held}
-use Rattle.model.proofs.places.Shown.{Shown, read-now}
+use Rattle.model.proofs.machine.Machine.{Anchor, Kind, Rec, Shared, aimed, at11, at4, finishes, four, goes, pop}
+use Rattle.model.proofs.machine.Machine.{inner, push, pushing, putAnchor, running, runs, same, stable, tip}
+use Rattle.model.proofs.invariant.{Owners.{Owner, Intact}, Shape.Shape, Tasks.{Four, Own, Task, Three}}
+use Rattle.model.proofs.chain.{Changes.{inner-apart, pop-shape, push-shape}, Ends.{both-null, ends-real}}
+use Rattle.model.proofs.places.{Effects.aimed-effect, Place1.place1, Owned.queued-held, Shown.{Shown, read-now}}
 use Rattle.model.proofs.places.Taking.{end-entry, not-in, pop-good, push-good, put-bare}
 
 module _ (t : ℕ) (s : Shared) (h : ℕ → Owner) (q : List Entry) (c : BookCall) (all : Intact s h q) (r : Rec) where
   pub place4 : (k : Kind) → r .kind ≡ k → Task at4 s h t r c → Shown t s h q c (four k s r)
-  place4 push k w = by-test (Shown t s h q c) (same (r .read) (s .anchor)) ok (λ e. place1 t s h q c all r push k (w .0 .early, w .0 .before))
+  place4 push k w = by-test (Shown t s h q c) (same (r .read) (s .anchor)) ok (λ e. place1 t s h q c all r push k (w .0 .unfinished, w .0 .before))
     where
       a : Anchor
       a = aimed (r .read) (r .side) (r .own) (pushing (r .side))
@@ -49,7 +41,7 @@ module _ (t : ℕ) (s : Shared) (h : ℕ → Owner) (q : List Entry) (c : BookCa
             read = read-now a;
             status = aimed-way (r .read) (r .side) (r .own);
           }) refl
-  place4 pop k w = by-test (Shown t s h q c) (same (r .read) (s .anchor)) ok (λ e. place1 t s h q c all r pop k (w .0 .early, w .0 .before))
+  place4 pop k w = by-test (Shown t s h q c) (same (r .read) (s .anchor)) ok (λ e. place1 t s h q c all r pop k (w .0 .unfinished, w .0 .before))
     where
       a : Anchor
       a = aimed (r .read) (r .side) (r .near) (r .read .status)

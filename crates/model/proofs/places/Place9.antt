@@ -1,24 +1,16 @@
 -- Place 9: the link back is made. A stale task fails, since the link's tag has grown.
-use mathlib.Core.Bool.{Bool, not}
-use mathlib.Core.List.{List}
-use mathlib.Core.Logic.{_≢_, _⊎_, inl, inr}
-use mathlib.Core.Path.{_∙_, _≡_, ap, refl, subst, sym}
+use mathlib.Core.{Bool.{Bool, not}, List.List, Logic.{_≢_, _⊎_, inl, inr}, Path.{_∙_, _≡_, ap, refl, subst, sym}}
 use Prim.Native.Nat.{_<_, suc, ℕ}
 use native.Mathlib.Omega.{arith}
 use Rattle.model.specs.declared.Entry.{Entry}
-use Rattle.model.proofs.tests.Truth.{by-test}
-use Rattle.model.proofs.lists.Slots.{slots}
-use Rattle.model.proofs.machine.Book.{BookCall}
-use Rattle.model.proofs.machine.Laws.{relink-across, relink-other, relink-same, same-side, sameLink-true, stable-pushing}
-use Rattle.model.proofs.machine.LinkTags.{grows-le, relink-grows}
-use Rattle.model.proofs.machine.Machine.{Anchor, Link, Rec, Shared, act, at10, at9, goes, inner, pushing, putLink, relink, running}
-use Rattle.model.proofs.machine.Machine.{runs, sameLink, stable, tip, withLink}
-use Rattle.model.proofs.invariant.Owners.{Owner, Intact, queued}
-use Rattle.model.proofs.invariant.{Rely.Rely, Shape.Made}
-use Rattle.model.proofs.invariant.Tasks.{Live, Task, way}
-use Rattle.model.proofs.chain.Links.{back-shape, inner-in}
+use Rattle.model.proofs.{tests.Truth.by-test, lists.Slots.slots, invariant.Tasks.{Live, Task, way}}
+use Rattle.model.proofs.machine.{Book.BookCall, Laws.stable-pushing, LinkTags.{grows-le, relink-grows}}
+use Rattle.model.proofs.machine.Laws.{relink-across, relink-other, relink-same, same-side, sameLink-true}
+use Rattle.model.proofs.machine.Machine.{Anchor, Link, Rec, Shared, act, at10, at9, goes, inner, pushing, relink}
+use Rattle.model.proofs.machine.Machine.{putLink, running, runs, sameLink, stable, tip, withLink}
+use Rattle.model.proofs.invariant.{Owners.{Owner, Intact, queued}, Rely.Rely, Shape.Made}
+use Rattle.model.proofs.{chain.Links.{back-shape, inner-in}, places.Shown.{Shown, plain, stack-same}}
 use Rattle.model.proofs.places.{Effects.no-effect, Marking.marked-kept, Owned.queued-held, Places5to8.away}
-use Rattle.model.proofs.places.Shown.{Shown, plain, stack-same}
 
 module _ (t : ℕ) (s : Shared) (h : ℕ → Owner) (q : List Entry) (c : BookCall) (all : Intact s h q) (r : Rec) where
   module _ (e : Bool) (st : s .anchor .status ≡ pushing e) (v : Link) (names : v .slot ≡ tip (s .anchor) e) where

@@ -1,22 +1,16 @@
 -- Places 12 to 14: a push draws its slot from the stack. *No slot* is an effect without a change of the queue.
-use mathlib.Core.{Bool.true, List.List}
-use mathlib.Core.Logic.{inl, inr}
-use mathlib.Core.Path.{_≡_, ap, refl, subst, sym}
+use mathlib.Core.{Bool.true, List.List, Logic.{inl, inr}, Path.{_≡_, ap, refl, subst, sym}}
 use Prim.Native.Nat.{_<_, suc, ℕ}
 use native.Mathlib.Omega.{arith}
 use Rattle.model.specs.declared.Entry.{Entry}
-use Rattle.model.proofs.tests.Truth.{by-test, not-both}
-use Rattle.model.proofs.machine.Book.{BookCall, told}
-use Rattle.model.proofs.machine.Laws.{exhausted-false, sameLink-true, upd-same}
-use Rattle.model.proofs.machine.Machine.{Draw, Link, Rec, Shared, at1, at12, at13, at14, draw, draws, ends, noSlot, none, owns, push, running}
-use Rattle.model.proofs.machine.Machine.{runs, sameLink, take, upd, exhausted}
-use Rattle.model.proofs.invariant.Owners.{Owner, Pool, Spare, Intact, held}
+use Rattle.model.proofs.{tests.Truth.{by-test, not-both}, invariant.Owners.{Owner, Pool, Spare, Intact, held}}
+use Rattle.model.proofs.machine.{Book.{BookCall, told}, Laws.{exhausted-false, sameLink-true, upd-same}}
+use Rattle.model.proofs.machine.Machine.{Draw, Link, Rec, Shared, at1, at12, at13, at14, draw, draws, ends, none}
+use Rattle.model.proofs.machine.Machine.{noFreeSlot, owns, push, running, runs, sameLink, take, upd, exhausted}
 use Rattle.model.proofs.invariant.Tasks.{Fourteenth, Own, Task, At13}
-use Rattle.model.proofs.places.Effects.{no-effect, noted-none}
-use Rattle.model.proofs.places.Marking.{marked-kept}
+use Rattle.model.proofs.places.{Effects.{no-effect, noted-none}, Marking.marked-kept, Stack.{drawn, top-free}}
 use Rattle.model.proofs.places.Owning.{gets-marks, gets-rely, gets-sole, gets-whole}
 use Rattle.model.proofs.places.Shown.{Shown, effective, plain, rely-refl, still}
-use Rattle.model.proofs.places.Stack.{drawn, top-free}
 
 module _ (t : ℕ) (s : Shared) (h : ℕ → Owner) (q : List Entry) (c : BookCall) (all : Intact s h q) (r : Rec) where
   -- The next is read from the head's slot, or from one that is past.
@@ -43,7 +37,7 @@ module _ (t : ℕ) (s : Shared) (h : ℕ → Owner) (q : List Entry) (c : BookCa
       (subst (λ b. Spare b (s .slots) (s .next) (v .slot) (upd h x (held t))) (sym (w .0))
       (subst (λ y. Pool (s .slots) (s .next) y (upd h x (held t))) n (drawn k t (w .2 .0)))))
       (gets-rely all t x (r .label) (top .0) v (record { pooled = refl; head = inr later })) (
-        w .1 .early,
+        w .1 .unfinished,
         record {
           agrees = record { kind = a .kind; side = a .side; slot = refl; label = a .label };
           none = w .1 .none;
@@ -54,9 +48,9 @@ module _ (t : ℕ) (s : Shared) (h : ℕ → Owner) (q : List Entry) (c : BookCa
 
   pub place12to14 : (p : Draw) → Task (draw p) s h t r c → Shown t s h q c (draws p s r)
   place12to14 at12 w = by-test (Shown t s h q c) (exhausted (s .head))
-      (λ e. effective (ends none noSlot) h (told c noSlot) q (noted-none c q (s .anchor) (s .anchor)) all (λ u z. rely-refl u)
+      (λ e. effective (ends none noFreeSlot) h (told c noFreeSlot) q (noted-none c q (s .anchor) (s .anchor)) all (λ u z. rely-refl u)
       (refl, record { once = ap suc (w .1 .none); agrees = refl }, w .1 .bare) (λ _ z. absurd (not-both refl z))
-      (marked-kept (ends none noSlot) refl (λ x. refl)))
+      (marked-kept (ends none noFreeSlot) refl (λ x. refl)))
       (λ e. still refl all (w .0, w .1, (exhausted-false (s .head) e, inl refl)))
   place12to14 at13 w = still refl all (w .0, w .1, (w .2 .0, reads-next (w .2 .1)))
   place12to14 at14 w = by-test (Shown t s h q c) (sameLink (r .link) (s .head))

@@ -1,24 +1,15 @@
 -- Places 15 to 17: a pop gives its slot back to the stack. The next of the slot is written while it is the task's, so nobody looks at it.
-use mathlib.Core.Bool.{not, true}
-use mathlib.Core.List.{List}
-use mathlib.Core.Logic.{_≢_, inl, inr}
-use mathlib.Core.Path.{_∙_, _≡_, ap, refl, subst, subst₂, sym}
+use mathlib.Core.{Bool.{not, true}, List.List, Logic.{_≢_, inl, inr}, Path.{_∙_, _≡_, ap, refl, subst, subst₂, sym}}
 use Prim.Native.Nat.{_<_, _≤_, ℕ}
 use native.Mathlib.Omega.{arith}
 use Rattle.model.specs.declared.Entry.{Entry}
-use Rattle.model.proofs.tests.Truth.{by-test}
-use Rattle.model.proofs.machine.Book.{BookCall}
-use Rattle.model.proofs.machine.Laws.{sameLink-true, upd-other, upd-same}
-use Rattle.model.proofs.machine.Machine.{Give, Link, Rec, Shared, at15, at16, at17, blank, ends, give, gives, goes, popped, putHead}
-use Rattle.model.proofs.machine.Machine.{putNext, running, runs, sameLink, upd, withNext}
-use Rattle.model.proofs.invariant.Owners.{Owner, Pool, Spare, Intact, free, held, shows}
-use Rattle.model.proofs.invariant.{Rely.Rely, Tasks.Task}
-use Rattle.model.proofs.places.{Effects.no-effect, Places12to14.pool}
-use Rattle.model.proofs.places.Marking.{marked-at, marked-kept}
-use Rattle.model.proofs.places.Owned.{held-free, held-inj}
-use Rattle.model.proofs.places.Owning.{frees-bare, frees-rely, frees-whole}
-use Rattle.model.proofs.places.Shown.{ShownAs, plain, still}
-use Rattle.model.proofs.places.Stack.{given, linked, top-apart}
+use Rattle.model.proofs.{tests.Truth.by-test, machine.{Book.BookCall, Laws.{sameLink-true, upd-other, upd-same}}}
+use Rattle.model.proofs.machine.Machine.{Give, Link, Rec, Shared, at15, at16, at17, blank, ends, give, gives}
+use Rattle.model.proofs.machine.Machine.{goes, popped, putHead, putNext, running, runs, sameLink, upd, withNext}
+use Rattle.model.proofs.invariant.{Owners.{Owner, Pool, Spare, Intact, free, held, shows}, Rely.Rely, Tasks.Task}
+use Rattle.model.proofs.places.{Effects.no-effect, Places12to14.pool, Marking.{marked-at, marked-kept}}
+use Rattle.model.proofs.places.{Owned.{held-free, held-inj}, Owning.{frees-bare, frees-rely, frees-whole}}
+use Rattle.model.proofs.places.{Shown.{ShownAs, plain, still}, Stack.{given, linked, top-apart}}
 
 module _ (t : ℕ) (s : Shared) (h : ℕ → Owner) (q : List Entry) (c : BookCall) (all : Intact s h q) (r : Rec) where
   abbrev x : ℕ

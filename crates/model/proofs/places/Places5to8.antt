@@ -1,16 +1,13 @@
 -- Places 5 to 8: a helping task reads the neighbour and its link, and looks at Anchor before and after.
 -- Place 8 allows the change of place 9: Anchor was current after the link was read.
-use mathlib.Core.{List.List, Logic.inl}
-use mathlib.Core.Path.{_∙_, ap, refl}
+use mathlib.Core.{List.List, Logic.inl, Path.{_∙_, ap, refl}}
 use Prim.Native.Nat.{ℕ}
 use lib.Dec.{eqb}
 use borrow.Author.Tests.{eqb-false, eqb-true}
 use Rattle.model.specs.declared.Entry.{Entry}
-use Rattle.model.proofs.tests.Truth.{by-test}
-use Rattle.model.proofs.machine.{Book.BookCall, Laws.same-true}
+use Rattle.model.proofs.{tests.Truth.by-test, machine.{Book.BookCall, Laws.same-true}}
 use Rattle.model.proofs.machine.Machine.{Rec, Shared, act, at5, at6, at7, at8, leave, none, same, tip}
-use Rattle.model.proofs.invariant.Owners.{Owner, Intact}
-use Rattle.model.proofs.invariant.Tasks.{At8, Helps, At9, Task, way}
+use Rattle.model.proofs.invariant.{Owners.{Owner, Intact}, Tasks.{At8, Helps, At9, Task, way}}
 use Rattle.model.proofs.places.Shown.{Shown, leaves, rely-refl, still}
 
 module _ (t : ℕ) (s : Shared) (h : ℕ → Owner) (q : List Entry) (c : BookCall) (all : Intact s h q) (r : Rec) where
@@ -35,7 +32,7 @@ module _ (t : ℕ) (s : Shared) (h : ℕ → Owner) (q : List Entry) (c : BookCa
   pub place8 : Task at8 s h t r c → Shown t s h q c (act at8 s r)
   place8 w = by-test (Shown t s h q c) (same (r .read) (s .anchor))
       (λ e. let p = same-true (r .read) (s .anchor) e in
-      let ninth : At9 s (r .read) (r .near) (r .link) = record
+      let live9 : At9 s (r .read) (r .near) (r .link) = record
       { other = w .1 .other; chance = inl (record { current = p; near = w .1 .near p; fresh = w .1 .fresh p }) } in
-      still refl all (w .0, ninth))
+      still refl all (w .0, live9))
       (λ e. away (w .0))

@@ -1,33 +1,27 @@
 -- What is to be shown of one step, and how it is put together.
-use mathlib.Core.Bool.{Bool, false, true}
-use mathlib.Core.List.{List}
-use mathlib.Core.Logic.{_≢_, inl, inr}
-use mathlib.Core.Path.{_≡_, ap, refl, subst, sym}
+use mathlib.Core.{Bool.{Bool, false, true}, List.List, Logic.{_≢_, inl, inr}, Path.{_≡_, ap, refl, subst, sym}}
 use Prim.Native.Nat.{_<_, ℕ}
 use native.Mathlib.Omega.{arith}
 use Rattle.model.specs.declared.Entry.{Entry}
-use Rattle.model.proofs.tests.Truth.{by-test, not-both}
-use Rattle.model.proofs.machine.Book.{BookCall, Honoured, effect, granted, isNoSlot, noted}
-use Rattle.model.proofs.machine.Machine.{Anchor, Answer, Move, Rec, Shared, Touch, apply, at1, blank, empty, ends, goes, isGiving, leave}
-use Rattle.model.proofs.machine.Machine.{noSlot, none, popped, push, pushed, pushing, running, runs, tip, withAnchor}
-use Rattle.model.proofs.invariant.Owners.{Owner, Intact, held}
-use Rattle.model.proofs.invariant.Rely.{Rely, Stacked}
-use Rattle.model.proofs.invariant.Shape.{Made}
+use Rattle.model.proofs.{tests.Truth.{by-test, not-both}, machine.Machine.{pushing, running, runs, withAnchor}}
+use Rattle.model.proofs.machine.Book.{BookCall, Honoured, effect, granted, isNoFreeSlot, noted}
+use Rattle.model.proofs.machine.Machine.{Anchor, Answer, Move, Rec, Shared, Touch, apply, at1, blank, empty, tip}
+use Rattle.model.proofs.machine.Machine.{ends, goes, isGiving, leave, noFreeSlot, none, popped, push, pushed}
+use Rattle.model.proofs.invariant.{Owners.{Owner, Intact, held}, Rely.{Rely, Stacked}, Shape.Made}
 use Rattle.model.proofs.invariant.Tasks.{Bare, Read, Stage, Task}
-use Rattle.model.proofs.places.Effects.{no-effect, noted-false}
-use Rattle.model.proofs.places.Marking.{Marked, marked-kept}
+use Rattle.model.proofs.places.{Effects.{no-effect, noted-false}, Marking.{Marked, marked-kept}}
 
 -- The record and the call after an answer.
 abbrev pub Finish : Answer → Shared → (ℕ → Owner) → ℕ → Rec → BookCall → Type 0
 Finish running s h t r c = Task (r .place) s h t r c
 Finish pushed s h t r c = (r ≡ blank) × Honoured (record { call = c; answer = pushed }) × Bare h t
 Finish empty s h t r c = (r ≡ blank) × Honoured (record { call = c; answer = empty }) × Bare h t
-Finish noSlot s h t r c = (r ≡ blank) × Honoured (record { call = c; answer = noSlot }) × Bare h t
+Finish noFreeSlot s h t r c = (r ≡ blank) × Honoured (record { call = c; answer = noFreeSlot }) × Bare h t
 Finish (popped x l) s h t r c = (r ≡ blank) × Honoured (record { call = c; answer = popped x l }) × Bare h t
 
 -- A push that has its effect stands at the end of its side.
 abbrev pub Stands : Shared → BookCall → Move → Type 0
-Stands s c m = effect (s .anchor) (apply s (m .touch) .anchor) (m .answer) ≡ true → isNoSlot (m .answer) ≡ false → c .kind ≡ push
+Stands s c m = effect (s .anchor) (apply s (m .touch) .anchor) (m .answer) ≡ true → isNoFreeSlot (m .answer) ≡ false → c .kind ≡ push
     → tip (apply s (m .touch) .anchor) (c .side) ≡ granted (m .touch) c .slot
 
 -- b tells whether the task stands at 15 to 17.

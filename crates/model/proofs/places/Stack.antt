@@ -1,16 +1,9 @@
 -- The pool's stack: what a task that draws a slot, gives one back or links one does to it.
-use mathlib.Core.List.{List, [], _∷_}
-use mathlib.Core.Logic.{_≢_, _⊎_, inl, inr}
-use mathlib.Core.Path.{_∙_, _≡_, ap, refl, subst, sym}
+use mathlib.Core.{List.{List, [], _∷_}, Logic.{_≢_, _⊎_, inl, inr}, Path.{_∙_, _≡_, ap, refl, subst, sym}}
 use Prim.Native.Nat.{_≤_, ℕ}
-use Rattle.model.proofs.tests.Truth.{decide-eq}
-use Rattle.model.proofs.lists.All.{all-both, all-map}
-use Rattle.model.proofs.lists.Deque.{Distinct}
-use Rattle.model.proofs.lists.In.{In, in-rest}
-use Rattle.model.proofs.machine.Laws.{upd-other, upd-same}
-use Rattle.model.proofs.machine.Machine.{upd}
-use Rattle.model.proofs.invariant.Owners.{Owner, Pool, Stack, free, held}
-use Rattle.model.proofs.places.Owned.{held-free, owner-back}
+use Rattle.model.proofs.{tests.Truth.decide-eq, machine.{Laws.{upd-other, upd-same}, Machine.upd}}
+use Rattle.model.proofs.lists.{All.{all-both, all-map}, Deque.Distinct, In.{In, in-rest}}
+use Rattle.model.proofs.{invariant.Owners.{Owner, Pool, Stack, free, held}, places.Owned.{held-free, owner-back}}
 use Rattle.model.specs.Lists.{All}
 
 -- The next of a slot outside the stack does not matter.

@@ -1,19 +1,12 @@
 -- A start keeps the invariant. In a named queue a push start takes a slot that is unmarked, so nobody's; in a pooled queue it takes none.
-use mathlib.Core.Bool.{Bool, false, not, true}
-use mathlib.Core.Logic.{_≢_}
-use mathlib.Core.Path.{_∙_, _≡_, ap, refl, subst, sym}
+use mathlib.Core.{Bool.{Bool, false, not, true}, Logic._≢_, Path.{_∙_, _≡_, ap, refl, subst, sym}}
 use Prim.Native.Nat.{_≤_, ℕ}
-use Rattle.model.proofs.tests.Truth.{not-both}
-use Rattle.model.proofs.machine.Book.{Both, begun, bookedCall}
-use Rattle.model.proofs.machine.Laws.{upd-same}
+use Rattle.model.proofs.{tests.Truth.not-both, machine.{Book.{Both, begun, bookedCall}, Laws.upd-same}}
 use Rattle.model.proofs.machine.Machine.{Rec, Shared, asking, idle, moved, pop, push, started, upd, withLabel}
-use Rattle.model.proofs.invariant.Invariant.{Inv}
-use Rattle.model.proofs.invariant.Owners.{Owner, Spare, free, held, queued, shows}
+use Rattle.model.proofs.invariant.{Invariant.Inv, Owners.{Owner, Spare, free, held, queued, shows}}
 use Rattle.model.proofs.invariant.Tasks.{Bare, Task}
-use Rattle.model.proofs.places.Marking.{none-giving, shows-same}
+use Rattle.model.proofs.places.{Marking.{none-giving, shows-same}, Shown.stack-same, Step.{others, tasks-upd}}
 use Rattle.model.proofs.places.Owning.{gets-marks, gets-rely, gets-sole, gets-whole}
-use Rattle.model.proofs.places.Shown.{stack-same}
-use Rattle.model.proofs.places.Step.{others, tasks-upd}
 
 module _ (p : Both) (i : Inv p) where
   abbrev s : Shared
@@ -59,7 +52,7 @@ module _ (p : Both) (i : Inv p) where
         tasks = tasks-upd s h (p .state .task) (p .book .calls) t (asking d l) (bookedCall push d 0 l) (λ u n. i .tasks u) (
           e,
           record {
-            early = refl;
+            unfinished = refl;
             kind = refl;
             agrees = record { kind = refl; side = refl; slot = refl; label = refl };
             none = refl;

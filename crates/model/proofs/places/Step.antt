@@ -1,21 +1,17 @@
 -- A step of any task keeps the invariant.
-use mathlib.Core.{Bool.false, List.List}
-use mathlib.Core.Logic.{_≢_, _⊎_, inl, inr}
-use mathlib.Core.Path.{_≡_, refl, subst, subst₂, sym}
+use mathlib.Core.{Bool.false, List.List, Logic.{_≢_, _⊎_, inl, inr}, Path.{_≡_, refl, subst, subst₂, sym}}
 use Prim.Native.Nat.{_≤_, ℕ}
 use Rattle.model.specs.declared.Entry.{Entry}
-use Rattle.model.proofs.tests.Truth.{decide-eq, not-both}
+use Rattle.model.proofs.{tests.Truth.{decide-eq, not-both}, machine.Laws.{upd-other, upd-same}}
 use Rattle.model.proofs.machine.Book.{Both, BookCall, Honoured, Noted, closes, granted, noCall, noted, stepped}
-use Rattle.model.proofs.machine.Laws.{upd-other, upd-same}
-use Rattle.model.proofs.machine.Machine.{Answer, Place, Rec, Shared, Touch, act, apply, at1, at10, at11, at2, at3, at4, at5, at6, at7, at8}
-use Rattle.model.proofs.machine.Machine.{at9, blank, clear, draw, empty, give, idle, isGiving, isIdle, moved, noSlot, none, popped, pushed, putAnchor}
-use Rattle.model.proofs.machine.Machine.{putHead, putLink, putNext, running, take, upd}
-use Rattle.model.proofs.invariant.{Invariant.Inv, Rely.Rely}
-use Rattle.model.proofs.invariant.Owners.{Owner, Intact, shows}
-use Rattle.model.proofs.invariant.Tasks.{Bare, Task}
-use Rattle.model.proofs.places.{Others.keep, Place1.place1, Place10.place10, Place11.place11, Place2.place2, Place3.place3, Place4.place4}
-use Rattle.model.proofs.places.{Place9.place9, Places12to14.place12to14, Places15to17.place15to17}
-use Rattle.model.proofs.places.Places5to8.{place5, place6, place7, place8}
+use Rattle.model.proofs.machine.Machine.{Answer, Place, Rec, Shared, Touch, act, apply, at1, at10, at11, at2}
+use Rattle.model.proofs.machine.Machine.{at3, at4, at5, at6, at7, at8, at9, blank, clear, draw, empty, give, upd}
+use Rattle.model.proofs.machine.Machine.{idle, isGiving, isIdle, moved, noFreeSlot, none, popped, pushed, take}
+use Rattle.model.proofs.machine.Machine.{putAnchor, putHead, putLink, putNext, running}
+use Rattle.model.proofs.invariant.{Invariant.Inv, Rely.Rely, Owners.{Owner, Intact, shows}, Tasks.{Bare, Task}}
+use Rattle.model.proofs.places.{Others.keep, Place1.place1, Place10.place10, Place11.place11, Place2.place2}
+use Rattle.model.proofs.places.{Place3.place3, Place4.place4, Place9.place9, Places12to14.place12to14}
+use Rattle.model.proofs.places.{Places15to17.place15to17, Places5to8.{place5, place6, place7, place8}}
 use Rattle.model.proofs.places.Shown.{Finish, ShownAs, Stands}
 
 -- One step, by places.
@@ -94,7 +90,7 @@ module _ (p : Both) (i : Inv p) where
   }
   absorb t s r h n pushed a y f k = answer t s r h n pushed a y f k
   absorb t s r h n empty a y f k = answer t s r h n empty a y f k
-  absorb t s r h n noSlot a y f k = answer t s r h n noSlot a y f k
+  absorb t s r h n noFreeSlot a y f k = answer t s r h n noFreeSlot a y f k
   absorb t s r h n (popped x l) a y f k = answer t s r h n (popped x l) a y f k
 
   pub step-inv : (t : ℕ) → isIdle (p .state .task t .place) ≡ false

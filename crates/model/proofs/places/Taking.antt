@@ -1,33 +1,25 @@
 -- A change of Anchor that is an effect: a push puts its slot into the queue, a pop takes the slot at its end.
-use mathlib.Core.Bool.{Bool, false, not, true}
-use mathlib.Core.List.{List, [], _∷_}
-use mathlib.Core.Logic.{_≢_, _⊎_, inl, inr}
+use mathlib.Core.{Bool.{Bool, false, not, true}, List.{List, [], _∷_}, Logic.{_≢_, _⊎_, inl, inr}}
 use mathlib.Core.Path.{_∙_, _≡_, ap, refl, subst, sym}
 use Prim.Native.Nat.{_<_, suc, ℕ}
-use Rattle.model.specs.declared.Entry.{Entry}
-use Rattle.model.proofs.tests.Truth.{decide-eq}
-use Rattle.model.proofs.lists.All.{all-both, all-map, all-rest, all-seen}
-use Rattle.model.proofs.lists.Chain.{distinct-seen}
-use Rattle.model.proofs.lists.Deque.{Distinct, front, put, rest, seen, took}
-use Rattle.model.proofs.lists.In.{In, in-put, in-took}
-use Rattle.model.proofs.lists.Slots.{map-seen, slots, slots-put, slots-took}
-use Rattle.model.proofs.machine.Book.{BookCall, effect, given, granted, isNoSlot, noted, told}
-use Rattle.model.proofs.machine.Laws.{stable-pushing, upd-other, upd-same}
-use Rattle.model.proofs.machine.Machine.{Anchor, Move, Rec, Shared, Touch, apply, at1, at11, goes, isGiving, none, pop, popped, push, pushed}
-use Rattle.model.proofs.machine.Machine.{pushing, putAnchor, running, runs, stable, tip, upd, withAnchor}
-use Rattle.model.proofs.invariant.Owners.{Owner, Intact, free, held, queued, shows}
-use Rattle.model.proofs.invariant.Rely.{Rely}
-use Rattle.model.proofs.invariant.Shape.{Made, Shape}
-use Rattle.model.proofs.invariant.Tasks.{Bare, Before, Own, Sole}
-use Rattle.model.proofs.places.Effects.{noted-pop, noted-push}
-use Rattle.model.proofs.places.Marking.{marked-at, shows-own}
-use Rattle.model.proofs.places.Owned.{held-free, held-inj, owner-back, owner-bounds, owner-kept, owner-spare, push-pop, queued-free, queued-held}
-use Rattle.model.proofs.places.Shown.{Finish, Shown, effective, rely-turn, still}
-use Rattle.model.specs.Lists.{All}
+use Rattle.model.specs.{declared.Entry.Entry, Lists.All}
+use Rattle.model.proofs.{tests.Truth.decide-eq, lists.Slots.{map-seen, slots, slots-put, slots-took}}
+use Rattle.model.proofs.lists.{All.{all-both, all-map, all-rest, all-seen}, Chain.distinct-seen}
+use Rattle.model.proofs.lists.{Deque.{Distinct, front, put, rest, seen, took}, In.{In, in-put, in-took}}
+use Rattle.model.proofs.machine.Book.{BookCall, effect, given, granted, isNoFreeSlot, noted, told}
+use Rattle.model.proofs.machine.{Laws.{stable-pushing, upd-other, upd-same}, Machine.{tip, upd, withAnchor}}
+use Rattle.model.proofs.machine.Machine.{Anchor, Move, Rec, Shared, Touch, apply, at11, goes, isGiving, pop}
+use Rattle.model.proofs.machine.Machine.{none, popped, push, pushed, pushing, putAnchor, running, runs, stable}
+use Rattle.model.proofs.invariant.{Owners.{Owner, Intact, free, held, queued, shows}, Rely.Rely}
+use Rattle.model.proofs.invariant.{Shape.{Made, Shape}, Tasks.{Bare, Before, Own, Sole}}
+use Rattle.model.proofs.places.{Effects.{noted-pop, noted-push}, Marking.{marked-at, shows-own}}
+use Rattle.model.proofs.places.Owned.{held-free, held-inj, owner-back, owner-bounds, owner-kept, owner-spare}
+use Rattle.model.proofs.places.Owned.{push-pop, queued-free, queued-held}
+use Rattle.model.proofs.places.Shown.{Finish, Shown, effective, rely-turn}
 
 module _ {s : Shared} {h : ℕ → Owner} {q : List Entry} (all : Intact s h q) where
-  calm : s .anchor .status ≡ stable → (e : Bool) → s .anchor .status ≡ pushing e → Made (s .link) (s .anchor) e
-  calm st e g = absurd (stable-pushing (sym st ∙ g))
+  stable-made : s .anchor .status ≡ stable → (e : Bool) → s .anchor .status ≡ pushing e → Made (s .link) (s .anchor) e
+  stable-made st e g = absurd (stable-pushing (sym st ∙ g))
 
   -- The slot of a push is not in the queue.
   pub not-in : {t x : ℕ} → h x ≡ held t → All (λ y. y ≢ x) (slots q)
@@ -106,7 +98,7 @@ module _ {t : ℕ} {s : Shared} {h : ℕ → Owner} {q : List Entry} {c : BookCa
   -- A push has its effect.
   pub push-good : (m : Move) → r .kind ≡ push → Before (s .label) h t (r .kind) (r .side) (r .own) (r .label) c
       → effect (s .anchor) (apply s (m .touch) .anchor) (m .answer) ≡ true
-      → isNoSlot (m .answer) ≡ false → (a : Anchor) → m .touch ≡ putAnchor a → tip a (r .side) ≡ r .own → s .anchor .tag < a .tag
+      → isNoFreeSlot (m .answer) ≡ false → (a : Anchor) → m .touch ≡ putAnchor a → tip a (r .side) ≡ r .own → s .anchor .tag < a .tag
       → s .anchor .status ≡ stable → Shape (s .link) a (put (r .side) (r .own) (slots q))
       → Finish (m .answer) (apply s (m .touch)) (upd h (r .own) queued) t (m .rec) (told c pushed) → isGiving (m .rec .place) ≡ false
       → Shown t s h q c m
@@ -117,7 +109,7 @@ module _ {t : ℕ} {s : Shared} {h : ℕ → Owner} {q : List Entry} {c : BookCa
       ∙ noted-push c (b .agrees) q (s .anchor) (apply s (m .touch) .anchor) (m .answer) eff ans k)
       (subst (λ z. Intact (apply s z) (upd h (r .own) queued) (put (r .side) (record { slot = r .own; label = r .label }) q)) (sym ms)
       (pushed-whole all t a (r .side) (r .own) (r .label) o shape))
-      (λ u n. subst (λ z. Rely u s h (apply s z) (upd h (r .own) queued)) (sym ms) (rely-turn a (upd h (r .own) queued) lt (calm all st)
+      (λ u n. subst (λ z. Rely u s h (apply s z) (upd h (r .own) queued)) (sym ms) (rely-turn a (upd h (r .own) queued) lt (stable-made all st)
       (λ u x n g. owner-kept h (r .own) queued t (inl (o .1)) u x n g) (λ u x n g. owner-back h (r .own) queued (held u) queued-held x g .1) u n))
       f (λ _ _ _. subst (λ (z : Touch). tip (apply s z .anchor) (c .side) ≡ granted z c .slot) (sym ms)
       (ap (λ (d : Bool). tip a d) (b .agrees .side) ∙ end ∙ sym (b .agrees .slot)))
@@ -139,7 +131,7 @@ module _ {t : ℕ} {s : Shared} {h : ℕ → Owner} {q : List Entry} {c : BookCa
       effective (runs (putAnchor a) (goes r at11)) (upd h y (held t)) (told c (given (seen (r .side) q))) (took (r .side) q)
       (noted-pop c (b .agrees) q (s .anchor) a running eff refl k)
       (popped-whole all t a (r .side) y e (λ z. ne (sym e ∙ z)) shape)
-      (rely-turn a (upd h y (held t)) lt (calm all st) (λ u x n f. owner-kept h y (held t) t (inr (g .1)) u x n f)
+      (rely-turn a (upd h y (held t)) lt (stable-made all st) (λ u x n f. owner-kept h y (held t) t (inr (g .1)) u x n f)
       (λ u x n f. owner-back h y (held t) (held u) (λ z. n (sym (held-inj z))) x f .1))
       (record { after = record { once = ap suc (b .none); told = g .0 }; holds = upd-same h y (held t); sole = sole })
       (λ _ _ z. absurd (push-pop (sym z ∙ b .agrees .kind ∙ k)))
@@ -155,6 +147,3 @@ module _ {t : ℕ} {s : Shared} {h : ℕ → Owner} {q : List Entry} {c : BookCa
           go : (y ≡ tip (r .read) (r .side)) ⊎ (y ≢ tip (r .read) (r .side)) → y ≡ tip (r .read) (r .side)
           go (inl z) = z
           go (inr z) = absurd (o y (sym (upd-other h (tip (r .read) (r .side)) (held t) y z) ∙ f))
-
-  pub back : Before (s .label) h t (r .kind) (r .side) (r .own) (r .label) c → r .finishing ≡ false → Shown t s h q c (runs none (goes r at1))
-  back b e = still refl all (e, b)

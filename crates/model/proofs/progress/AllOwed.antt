@@ -1,18 +1,13 @@
 -- The sum of what all tasks owe, where one task's record and what the tasks share are replaced. A task that draws its slot may send each
 -- other task at the head back, which is counted pair by pair.
-use mathlib.Core.Bool.{Bool, cond, true}
-use mathlib.Core.Logic.{_≢_, _⊎_, inl, inr}
-use mathlib.Core.Path.{_≡_, ap, refl, subst, sym}
+use mathlib.Core.{Bool.{Bool, cond, true}, Logic.{_≢_, _⊎_, inl, inr}, Path.{_≡_, ap, refl, subst, sym}}
 use Prim.Native.Nat.{_*_, _+_, _<_, _≤_, suc, zero, ℕ}
 use native.Mathlib.Omega.{arith}
 use Rattle.model.specs.Progress.{pairs}
-use Rattle.model.proofs.tests.Truth.{decide-eq}
-use Rattle.model.proofs.machine.Laws.{upd-other, upd-same}
-use Rattle.model.proofs.machine.Machine as M
-use Rattle.model.proofs.machine.Machine.{upd}
+use Rattle.model.proofs.{tests.Truth.decide-eq, machine.{Laws.{upd-other, upd-same}, Machine.upd}}
 use Rattle.model.proofs.tags.Sum.{total, total-at, total-drop, total-keep}
-use Rattle.model.proofs.progress.Others.{heads, keep}
-use Rattle.model.proofs.progress.Scale.{together}
+use Rattle.model.proofs.progress.{Others.{heads, keep}, Scale.together}
+use Rattle.model.proofs.machine.Machine as M
 
 -- How many of the first n tasks may find the head changed.
 abbrev pub atHead : ℕ → (ℕ → M.Rec) → ℕ

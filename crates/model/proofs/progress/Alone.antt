@@ -1,24 +1,20 @@
 -- A task stepped alone: what it owes falls at each of its steps, its effect among them, and is at most 18 for a push and 13 for a pop, in a
 -- pooled queue 21 and 16.
-use mathlib.Core.Bool.{Bool, _&&_, cond, false, true}
-use mathlib.Core.List.{List}
-use mathlib.Core.Logic.{_⊎_, inl, inr}
+use mathlib.Core.{Bool.{Bool, _&&_, cond, false, true}, List.List, Logic.{_⊎_, inl, inr}}
 use mathlib.Core.Path.{_≡_, ap, refl, subst, sym}
 use Prim.Native.Nat.{_+_, _<_, _≤_, suc, ℕ}
 use native.Mathlib.Omega.{arith}
 use Rattle.model.specs.declared.Entry.{Entry}
-use Rattle.model.proofs.tests.Truth.{by-test, not-both}
-use Rattle.model.proofs.machine.{Book.BookCall, Laws.sameLink-true}
-use Rattle.model.proofs.machine.Machine.{Kind, Link, Move, Place, Rec, Shared, act, at1, at10, at11, at12, at13, at14, at15, at16, at17, at2}
-use Rattle.model.proofs.machine.Machine.{at3, at4, at5, at6, at7, at8, at9, draw, four, give, goes, idle, isIdle, isStable, pop, push, putLink}
-use Rattle.model.proofs.machine.Machine.{runs, same, sameLink, tip, two}
-use Rattle.model.proofs.invariant.Owners.{Owner, Intact}
-use Rattle.model.proofs.invariant.Tasks.{Grown, Live, Task, way}
-use Rattle.model.proofs.progress.Bounds.{owed-within}
-use Rattle.model.proofs.progress.Falls.{Falls, drop, fall1, fall10-done, fall10-failed, fall11, fall12, fall13, fall14-done, fall14-failed, fall15}
-use Rattle.model.proofs.progress.Falls.{fall16, fall17-failed, fall2-failed, fall3, fall4-failed, fall5, fall6, fall7, fall8, fall9-done}
-use Rattle.model.proofs.progress.Falls.{fall9-failed, popped-running, pushed-running}
-use Rattle.model.proofs.progress.Measure.{home, owed, owedAt}
+use Rattle.model.proofs.{tests.Truth.{by-test, not-both}, progress.Measure.{home, owed, owedAt}}
+use Rattle.model.proofs.machine.{Book.BookCall, Laws.sameLink-true, Machine.{same, sameLink, two}}
+use Rattle.model.proofs.machine.Machine.{Kind, Link, Move, Place, Rec, Shared, act, at1, at10, at11, at12, at13}
+use Rattle.model.proofs.machine.Machine.{at14, at15, at16, at17, at2, at3, at4, at5, at6, at7, at8, at9, draw}
+use Rattle.model.proofs.machine.Machine.{four, give, goes, idle, isIdle, isStable, pop, push, putLink, runs, tip}
+use Rattle.model.proofs.invariant.{Owners.{Owner, Intact}, Tasks.{Grown, Live, Task, way}}
+use Rattle.model.proofs.progress.{Bounds.owed-within, Falls.{fall9-failed, popped-running, pushed-running}}
+use Rattle.model.proofs.progress.Falls.{Falls, drop, fall1, fall10-done, fall10-failed, fall11, fall12, fall13}
+use Rattle.model.proofs.progress.Falls.{fall14-done, fall14-failed, fall15, fall16, fall17-failed, fall2-failed}
+use Rattle.model.proofs.progress.Falls.{fall3, fall4-failed, fall5, fall6, fall7, fall8, fall9-done}
 
 -- From a change at 2 or 4 on: a push makes that one and, at 5 to 10, six more at the most; a pop that one and 11, in a pooled queue 15 to 17 too.
 abbrev pub spend : Bool → Kind → ℕ
@@ -63,20 +59,20 @@ module _ (s : Shared) (r : Rec) where
   asks e k = subst (λ z. draws (s .pooled) z ≡ true) (sym k) e
 
   -- From the change of a pop to 11.
-  eleventh : cond (s .pooled) 4 1 < c pop
-  eleventh = drop (s .pooled) (λ _. omega arith) (λ _. omega arith)
+  pop-to-11 : cond (s .pooled) 4 1 < c pop
+  pop-to-11 = drop (s .pooled) (λ _. omega arith) (λ _. omega arith)
 
   module _ (h : ℕ → Owner) (t : ℕ) (q : List Entry) (b : BookCall) (all : Intact s h q) where
     alone2 : (k : Kind) → r .finishing ≡ false → Own k at2 (two k s r)
     alone2 push f = by-test (Own push at2) now (λ e. record { less = λ z. absurd (pushed-running z) })
         (λ e. fall2-failed _ _ _ (gap push) s r h q all f e push)
-    alone2 pop f = by-test (Own pop at2) now (λ e. record { less = λ _. above (c pop) _ eleventh })
+    alone2 pop f = by-test (Own pop at2) now (λ e. record { less = λ _. above (c pop) _ pop-to-11 })
         (λ e. fall2-failed _ _ _ (gap pop) s r h q all f e pop)
 
     alone4 : (k : Kind) → r .finishing ≡ false → Own k at4 (four k s r)
     alone4 push f = by-test (Own push at4) now (λ e. record { less = λ _. above 7 6 (omega arith) })
         (λ e. fall4-failed _ _ _ (gap push) s r h q all f e push)
-    alone4 pop f = by-test (Own pop at4) now (λ e. record { less = λ _. above (c pop) _ eleventh })
+    alone4 pop f = by-test (Own pop at4) now (λ e. record { less = λ _. above (c pop) _ pop-to-11 })
         (λ e. fall4-failed _ _ _ (gap pop) s r h q all f e pop)
 
     alone9 : (k : Kind) → Task at9 s h t r b → Own k at9 (act at9 s r)
@@ -92,9 +88,9 @@ module _ (s : Shared) (r : Rec) where
     pub alone-falls : (p : Place) → isIdle p ≡ false → Task p s h t r b → Own (r .kind) p (act p s r)
     alone-falls idle i w = absurd (not-both refl i)
     alone-falls at1 i w = fall1 _ _ _ (gap (r .kind)) s r h q all (w .0) (r .kind)
-    alone-falls at2 i w = alone2 (r .kind) (w .0 .early)
+    alone-falls at2 i w = alone2 (r .kind) (w .0 .unfinished)
     alone-falls at3 i w = fall3 _ _ _ (gap (r .kind)) s r (r .kind)
-    alone-falls at4 i w = alone4 (r .kind) (w .0 .early)
+    alone-falls at4 i w = alone4 (r .kind) (w .0 .unfinished)
     alone-falls at5 i w = fall5 _ _ _ (gap (r .kind)) s r
     alone-falls at6 i w = fall6 _ _ _ (gap (r .kind)) s r
     alone-falls at7 i w = fall7 _ _ _ (gap (r .kind)) s r

@@ -1,38 +1,23 @@
 -- The same of the tables: a busy task stepped alone answers within as many steps as it owes.
-use mathlib.Core.Bool.{Bool, cond, false, true}
-use mathlib.Core.Logic.{_≢_}
-use mathlib.Core.Path.{_∙_, _≡_, ap, refl, subst, subst₂, sym}
+use mathlib.Core.{Bool.{Bool, cond, false, true}, Logic._≢_, Path.{_∙_, _≡_, ap, refl, subst, subst₂, sym}}
 use Prim.Native.Nat.{_+_, _<_, _≤_, suc, zero, ℕ}
 use native.Mathlib.Omega.{arith}
-use lib.Dec.{eqb, leb}
-use lib.Seq.{getD-set-same}
+use lib.{Dec.{eqb, leb}, Seq.getD-set-same}
 use borrow.Author.Tests.{eq-eqb}
-use Rattle.model.specs.Calls.{Acted, Done, act, actOn, back, finish, step}
-use Rattle.model.specs.History.{Ledger}
-use Rattle.model.specs.Places.{Move, wordFound, move}
-use Rattle.model.specs.Progress.{AnsweredWithin, Busy, limit}
-use Rattle.model.specs.Solo.{soloRun, soloSteps}
-use Rattle.model.specs.Refusals.{among, stepRefusal}
-use Rattle.model.specs.Route.{goes, counted}
+use Rattle.model.specs.{Calls.{Acted, Done, act, actOn, back, finish, step}, History.Ledger}
+use Rattle.model.specs.{Places.{Move, wordFound, move}, Progress.{AnsweredWithin, Busy, limit}}
+use Rattle.model.specs.{Solo.{soloRun, soloSteps}, Refusals.{among, stepRefusal}, Route.{goes, counted}}
 use Rattle.model.specs.Tables.{Queue, Tables, recordAt, taskAt, unused}
-use Rattle.model.specs.declared.Answer.the-variants.{Empty, NoFreeSlot, Popped, Pushed, Running}
-use Rattle.model.specs.declared.{Answer.Answer, Call.Call, Record.Record}
-use Rattle.model.specs.declared.Op.the-variants.{Step}
-use Rattle.model.specs.declared.Outcome.the-variants.{Moved}
-use Rattle.model.proofs.tests.Truth.{by-test, not-both, split}
-use Rattle.model.proofs.machine.{Answers.EndsAt, Laws.upd-same}
-use Rattle.model.proofs.machine.Machine as M
-use Rattle.model.proofs.bridge.Accepted.{Lies}
-use Rattle.model.proofs.bridge.Decoded.{next, seenMove}
+use Rattle.model.specs.declared.Answer.{the-variants.{Empty, NoFreeSlot, Popped, Pushed, Running}, Answer}
+use Rattle.model.specs.declared.{Call.Call, Record.Record, Op.the-variants.Step, Outcome.the-variants.Moved}
+use Rattle.model.proofs.{tests.Truth.{by-test, not-both, split}, machine.{Answers.EndsAt, Laws.upd-same}}
+use Rattle.model.proofs.{bridge.{Accepted.Lies, Decoded.{next, seenMove}}, ledger.Matched.Matched}
 use Rattle.model.proofs.bridge.Operations.{not-idle, reply, state-is, step-ends, stepped, task-of}
 use Rattle.model.proofs.bridge.View.{answerSeen, kindOf, placeOf, recOf, stateOf, view}
-use Rattle.model.proofs.ledger.Matched.{Matched}
-use Rattle.model.proofs.unsound.{Safe.Safe, StepSafe.keeps}
-use Rattle.model.proofs.unsound.StepSound.{h, own-task, seen, stepping}
-use Rattle.model.proofs.progress.Alone.{alone, alone-falls, alone-within, draws, spend}
-use Rattle.model.proofs.progress.Falls.{Falls}
-use Rattle.model.proofs.progress.Reached.{Reached, act-reached}
-use Rattle.model.proofs.progress.Taken.{Roomy, lies, taken}
+use Rattle.model.proofs.unsound.{Safe.Safe, StepSafe.keeps, StepSound.{h, own-task, seen, stepping}}
+use Rattle.model.proofs.progress.{Alone.{alone, alone-falls, alone-within, draws, spend}, Falls.Falls}
+use Rattle.model.proofs.progress.{Reached.{Reached, act-reached}, NotRefused.{Roomy, lies, not-refused}}
+use Rattle.model.proofs.machine.Machine as M
 
 -- What task t owes, stepped alone as a call of kind k.
 abbrev pub aloneOf : Bool → M.Kind → ℕ → M.State → ℕ
@@ -123,7 +108,7 @@ module _ (n : ℕ) (q : Queue) (l : Ledger) (g : Matched n q l) (f : Safe q) (po
         kind = λ e. ap (λ (x : Call). x .kind) own ∙ same-kind (still e);
         less = nearer;
       })
-      (λ e. absurd (not-both (eq-eqb _ _ (taken n q l g f pooled tasks y t b)) e))
+      (λ e. absurd (not-both (eq-eqb _ _ (not-refused n q l g f pooled tasks y t b)) e))
 
 module _ (pooled : Bool) (tasks : ℕ) where
   -- Within j steps, where it owes no more.

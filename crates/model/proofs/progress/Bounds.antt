@@ -2,9 +2,9 @@
 use mathlib.Core.Bool.{Bool, _&&_, cond, false, true}
 use Prim.Native.Nat.{_+_, _≤_, ℕ}
 use native.Mathlib.Omega.{arith}
-use Rattle.model.proofs.tests.Truth.{either}
-use Rattle.model.proofs.machine.Machine.{Draw, Give, Place, Rec, Shared, at1, at10, at11, at12, at13, at14, at15, at16, at17, at2, at3, at4}
-use Rattle.model.proofs.machine.Machine.{at5, at6, at7, at8, at9, draw, give, idle, isStable, same, sameLink}
+use Rattle.model.proofs.{tests.Truth.either, machine.Machine.{isStable, same, sameLink}}
+use Rattle.model.proofs.machine.Machine.{Draw, Give, Place, Rec, Shared, at1, at10, at11, at12, at13, at14, at15}
+use Rattle.model.proofs.machine.Machine.{at16, at17, at2, at3, at4, at5, at6, at7, at8, at9, draw, give, idle}
 use Rattle.model.proofs.progress.Measure.{drawing, due, giving, home, outgrown, owed}
 
 drawing-most : (draws top : Bool) (p : Draw) → cond draws (drawing top p) 0 ≤ 2 + cond draws 3 0

@@ -1,25 +1,21 @@
 -- A step that answers running brings its own task nearer: what the task owes falls. Place by place; what a change of Anchor at 2 or 4
 -- leaves is for the two bounds to say.
-use mathlib.Core.Bool.{Bool, _&&_, cond, false, true}
-use mathlib.Core.List.{List}
-use mathlib.Core.Logic.{_⊎_, inl, inr}
+use mathlib.Core.{Bool.{Bool, _&&_, cond, false, true}, List.List, Logic.{_⊎_, inl, inr}}
 use mathlib.Core.Path.{_∙_, _≡_, ap, refl, subst, sym}
 use Prim.Native.Nat.{_+_, _<_, _≤_, ℕ}
 use native.Mathlib.Omega.{arith}
 use lib.Dec.{eqb, ltb}
 use borrow.Author.Tests.{eqb-true, lt-ltb, ltb-true}
 use Rattle.model.specs.declared.Entry.{Entry}
-use Rattle.model.proofs.tests.Truth.{and-of, and-true, by-test, not-both}
-use Rattle.model.proofs.lists.Slots.{slots}
-use Rattle.model.proofs.machine.Laws.{same-refl, sameLink-refl}
-use Rattle.model.proofs.machine.Machine.{Anchor, Kind, Link, Move, Place, Rec, Shared, act, apply, at1, at10, at11, at12, at13, at14, at15}
-use Rattle.model.proofs.machine.Machine.{at16, at17, at2, at3, at4, at5, at6, at7, at8, at9, clear, draw, empty, exhausted, give, goes, isStable, leave}
-use Rattle.model.proofs.machine.Machine.{noSlot, none, one, owns, pop, popped, push, pushed, putAnchor, putLink, raised, reads, running, runs}
-use Rattle.model.proofs.machine.Machine.{same, sameLink, settled, take, three, tip, towards}
-use Rattle.model.proofs.invariant.Owners.{Owner, Intact}
-use Rattle.model.proofs.invariant.Tasks.{Fresh, Grown, Live, At9, way}
-use Rattle.model.proofs.chain.Ends.{alike-stable, both-null}
-use Rattle.model.proofs.progress.Measure.{home, outgrown, owed, owedAt}
+use Rattle.model.proofs.{tests.Truth.{and-of, and-true, by-test, not-both}, lists.Slots.slots}
+use Rattle.model.proofs.machine.{Laws.{same-refl, sameLink-refl}, Machine.{tip, towards}}
+use Rattle.model.proofs.machine.Machine.{Anchor, Kind, Link, Move, Place, Rec, Shared, act, apply, at1, at10}
+use Rattle.model.proofs.machine.Machine.{at11, at12, at13, at14, at15, at16, at17, at2, at3, at4, at5, at6, at7}
+use Rattle.model.proofs.machine.Machine.{at8, at9, clear, draw, empty, exhausted, give, goes, isStable, leave}
+use Rattle.model.proofs.machine.Machine.{noFreeSlot, none, one, owns, pop, popped, push, pushed, putAnchor, runs}
+use Rattle.model.proofs.machine.Machine.{putLink, raised, reads, running, same, sameLink, settled, take, three}
+use Rattle.model.proofs.invariant.{Owners.{Owner, Intact}, Tasks.{Fresh, Grown, Live, At9, way}}
+use Rattle.model.proofs.{chain.Ends.{alike-stable, both-null}, progress.Measure.{home, outgrown, owed, owedAt}}
 
 -- Two branches on one test, compared arm by arm.
 pub drop : (b : Bool) {x′ y′ x y : ℕ} → (b ≡ true → x′ < x) → (b ≡ false → y′ < y) → cond b x′ y′ < cond b x y
@@ -32,7 +28,7 @@ pushed-running e = let z : _≡_ {A = ℕ} 0 1 = cc in omega arith
 pub empty-running : empty ≡ running → ⊥
 empty-running e = let z : _≡_ {A = ℕ} 0 1 = cc in omega arith
 
-pub none-running : noSlot ≡ running → ⊥
+pub none-running : noFreeSlot ≡ running → ⊥
 none-running e = let z : _≡_ {A = ℕ} 0 1 = cc in omega arith
 
 pub popped-running : {x l : ℕ} → popped x l ≡ running → ⊥
@@ -60,13 +56,13 @@ module _ (c g : ℕ) (draws : Bool) (gap : c + 2 ≤ g) (s : Shared) (r : Rec) w
   At p m = Falls c g draws (owedAt c g draws p s r) s m
 
   -- A task that is not finishing.
-  early : (x : ℕ) {y z : ℕ} → r .finishing ≡ false → z < y → z < cond (r .finishing) x y
-  early x {y} {z} f lt = by-test (λ v. z < v) (r .finishing) (λ t. absurd (not-both t f)) (λ _. lt)
+  unfinished : (x : ℕ) {y z : ℕ} → r .finishing ≡ false → z < y → z < cond (r .finishing) x y
+  unfinished x {y} {z} f lt = by-test (λ v. z < v) (r .finishing) (λ t. absurd (not-both t f)) (λ _. lt)
 
   -- Back to place 1.
   leaves : (x : ℕ) {y : ℕ} → here < y → Falls c g draws (cond (r .finishing) x y) s (leave none r)
   leaves x {y} lt = by-test (Falls c g draws (cond (r .finishing) x y) s) (r .finishing) (λ t. record { less = λ e. absurd (pushed-running e) })
-      (λ f. record { less = λ _. early x f lt })
+      (λ f. record { less = λ _. unfinished x f lt })
 
   -- A change at 2 or 4 that fails.
   missed : now ≡ false → here < cond (steady && now) c (here + 1)
@@ -144,7 +140,7 @@ module _ (c g : ℕ) (draws : Bool) (gap : c + 2 ≤ g) (s : Shared) (r : Rec) w
   -- 10, done: at 1 under STABLE.
   pub fall10-done : (g′ : ℕ) → now ≡ true → r .finishing ≡ false
       → Falls c g′ draws (owedAt c g draws at10 s r) s (runs (putAnchor (settled (r .read))) (goes r at1))
-  fall10-done g′ e f = record { less = λ _. early 1 f (by-test (λ v. c + 2 < v) now (λ _. omega arith) (λ n. absurd (not-both e n))) }
+  fall10-done g′ e f = record { less = λ _. unfinished 1 f (by-test (λ v. c + 2 < v) now (λ _. omega arith) (λ n. absurd (not-both e n))) }
 
   -- 1: what is read is current. (With #106 a change that fails at 2 or 4 goes on so too: see `fall2-failed`.)
   module _ (h : ℕ → Owner) (q : List Entry) (all : Intact s h q) (f : r .finishing ≡ false) where

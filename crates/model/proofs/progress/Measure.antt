@@ -16,8 +16,9 @@
 use mathlib.Core.Bool.{Bool, _&&_, cond}
 use Prim.Native.Nat.{_+_, ℕ}
 use lib.Dec.{ltb}
-use Rattle.model.proofs.machine.Machine.{Draw, Give, Place, Rec, Shared, at1, at10, at11, at12, at13, at14, at15, at16, at17, at2, at3, at4}
-use Rattle.model.proofs.machine.Machine.{at5, at6, at7, at8, at9, draw, give, idle, isStable, same, sameLink, towards}
+use Rattle.model.proofs.machine.Machine.{Draw, Give, Place, Rec, Shared, at1, at10, at11, at12, at13, at14, at15}
+use Rattle.model.proofs.machine.Machine.{at16, at17, at2, at3, at4, at5, at6, at7, at8, at9, draw, give, idle}
+use Rattle.model.proofs.machine.Machine.{isStable, same, sameLink, towards}
 
 -- At place 1.
 abbrev pub home : ℕ → ℕ → Bool → ℕ

@@ -3,9 +3,9 @@
 use mathlib.Core.Bool.{Bool, _&&_, cond, false, true}
 use Prim.Native.Nat.{_*_, _+_, _≤_, ℕ}
 use native.Mathlib.Omega.{arith}
-use Rattle.model.proofs.tests.Truth.{either}
-use Rattle.model.proofs.machine.Machine.{Draw, Give, Phase, Place, at1, at10, at11, at12, at13, at14, at15, at16, at17, at2, at3, at4, at5, at6, at7}
-use Rattle.model.proofs.machine.Machine.{at8, at9, draw, fetching, give, idle, inside, leaving, outside, phase, returning}
+use Rattle.model.proofs.{tests.Truth.either, machine.Machine.{idle, inside, leaving, outside, phase, returning}}
+use Rattle.model.proofs.machine.Machine.{Draw, Give, Phase, Place, at1, at10, at11, at12, at13, at14, at15, at16}
+use Rattle.model.proofs.machine.Machine.{at17, at2, at3, at4, at5, at6, at7, at8, at9, draw, fetching, give}
 use Rattle.model.proofs.progress.Measure.{drawing, due, giving, home}
 
 -- Branches on one test, arm by arm; and on two, past a number between.

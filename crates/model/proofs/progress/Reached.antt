@@ -1,16 +1,11 @@
 -- What holds of every queue that an accepted opening and a list of operations have made.
-use mathlib.Core.{Bool.Bool, Path._≡_}
-use mathlib.Core.List.{List, [], _∷_}
+use mathlib.Core.{Bool.Bool, Path._≡_, List.{List, [], _∷_}}
 use Prim.Native.Nat.{suc, ℕ}
-use Rattle.model.specs.Calls.{act, opened}
-use Rattle.model.specs.History.{Ledger, Request, final}
-use Rattle.model.specs.{Refusals.openRefusal, Tables.Queue}
+use Rattle.model.specs.{Calls.{act, opened}, History.{Ledger, Request, final}, Refusals.openRefusal, Tables.Queue}
 use Rattle.model.specs.declared.Op.{Op}
-use Rattle.model.proofs.ledger.{EveryOperation.act-good, Matched.Matched}
-use Rattle.model.proofs.ledger.Opened.{nobody, open-good, some-slots}
-use Rattle.model.proofs.unsound.{Runs.act-safe, Safe.Safe}
-use Rattle.model.proofs.Never34.{open-safe}
-use Rattle.model.proofs.progress.Taken.{Roomy, act-roomy, open-roomy}
+use Rattle.model.proofs.ledger.{EveryOperation.act-good, Matched.Matched, Opened.{nobody, open-good, some-slots}}
+use Rattle.model.proofs.{unsound.{Runs.act-safe, Safe.Safe}, Never34.open-safe}
+use Rattle.model.proofs.progress.NotRefused.{Roomy, act-roomy, open-roomy}
 
 pub record Reached (pooled : Bool) (tasks : ℕ) (q : Queue) : Type 0 where
   pub position : ℕ

@@ -1,15 +1,13 @@
 -- What tasks owe together, and that no store of places 3, 9 and 10 lets it rise, and the one of place 14 by 3 at the most.
-use mathlib.Core.Bool.{Bool, cond, false, not, true}
-use mathlib.Core.Path.{_≡_, ap, refl, subst, subst₂, sym}
+use mathlib.Core.{Bool.{Bool, cond, false, not, true}, Path.{_≡_, ap, refl, subst, subst₂, sym}}
 use Prim.Native.Nat.{_*_, _+_, _≤_, ℕ}
 use native.Mathlib.Omega.{arith}
 use lib.Dec.{eqb, ltb}
 use borrow.Author.Tests.{eq-eqb, eqb-true, ne-eqb}
-use Rattle.model.proofs.tests.Truth.{by-test, not-both, either}
-use Rattle.model.proofs.machine.LinkTags.{relink-keeps}
-use Rattle.model.proofs.machine.Machine.{Anchor, Link, Rec, Shared, Status, isStable, pushing, same, sameLink, settled, stable, tip, towards}
-use Rattle.model.proofs.machine.Machine.{withAnchor, withHead, withLabel, withLink}
-use Rattle.model.proofs.invariant.Shape.{Made}
+use Rattle.model.proofs.{tests.Truth.{by-test, not-both, either}, invariant.Shape.Made}
+use Rattle.model.proofs.machine.{LinkTags.relink-keeps, Machine.withLink}
+use Rattle.model.proofs.machine.Machine.{Anchor, Link, Rec, Shared, Status, isStable, pushing, same, sameLink}
+use Rattle.model.proofs.machine.Machine.{settled, stable, tip, towards, withAnchor, withHead, withLabel}
 use Rattle.model.proofs.progress.Measure.{due, outgrown, owed}
 use Rattle.model.proofs.progress.Others.{head-le, heads, made-le, scale-le, stable-le}
 

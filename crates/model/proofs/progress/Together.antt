@@ -1,31 +1,28 @@
 -- All tasks together: at a step with no effect and no answer what its task owes falls, and what any other owes does not rise; or the task
 -- draws its slot, and nobody whom that sends back owes more than 3 more.
-use mathlib.Core.Bool.{Bool, false, not, true}
-use mathlib.Core.List.{List}
-use mathlib.Core.Logic.{_⊎_, inl, inr}
+use mathlib.Core.{Bool.{Bool, false, not, true}, List.List, Logic.{_⊎_, inl, inr}}
 use mathlib.Core.Path.{_∙_, _≡_, ap, refl, subst, sym}
 use Prim.Native.Nat.{_*_, _+_, _<_, _≤_, suc, ℕ}
 use native.Mathlib.Omega.{arith}
 use lib.Dec.{eqb}
 use Rattle.model.specs.declared.Entry.{Entry}
-use Rattle.model.proofs.tests.Truth.{by-test, not-both, either}
-use Rattle.model.proofs.machine.Book.{BookCall, Noted, effect, noted}
-use Rattle.model.proofs.machine.Laws.{same-true, sameLink-true}
-use Rattle.model.proofs.machine.Machine.{Anchor, Kind, Link, Move, Place, Rec, Shared, Touch, act, aimed, apply, at1, at10, at11, at12, at13}
-use Rattle.model.proofs.machine.Machine.{at14, at15, at16, at17, at2, at3, at4, at5, at6, at7, at8, at9, both, draw, exhausted, finishes, four}
-use Rattle.model.proofs.machine.Machine.{give, goes, idle, isIdle, isStable, leave, none, one, ownLink, pop, push, pushing, putAnchor, putLink}
-use Rattle.model.proofs.machine.Machine.{raised, running, runs, same, sameLink, settled, three, tip, towards, two, withLink}
-use Rattle.model.proofs.invariant.Owners.{Owner, Intact}
-use Rattle.model.proofs.invariant.Rely.{Quiet, Turned}
-use Rattle.model.proofs.invariant.Shape.{Made}
-use Rattle.model.proofs.invariant.Tasks.{Grown, Live, Task, way}
-use Rattle.model.proofs.places.{Effects.noted-false, Place2.place2, Place3.place3, Place4.place4, Place9.place9, Shown.Shown}
-use Rattle.model.proofs.progress.Falls.{Falls, empty-running, fall1, fall10-done, fall10-failed, fall11, fall12, fall13, fall14-done, fall14-failed}
-use Rattle.model.proofs.progress.Falls.{fall15, fall16, fall17-failed, fall2-failed, fall3, fall4-failed, fall5, fall6, fall7, fall8, fall9-done}
+use Rattle.model.proofs.{tests.Truth.{by-test, not-both, either}, invariant.Shape.Made, places.Place9.place9}
+use Rattle.model.proofs.invariant.{Tasks.{Grown, Live, Task, way}, Owners.{Owner, Intact}, Rely.{Quiet, Turned}}
+use Rattle.model.proofs.machine.{Book.{BookCall, Noted, effect, noted}, Laws.{same-true, sameLink-true}}
+use Rattle.model.proofs.machine.Machine.{Anchor, Kind, Link, Move, Place, Rec, Shared, Touch, act, aimed, apply}
+use Rattle.model.proofs.machine.Machine.{at1, at10, at11, at12, at13, at14, at15, at16, at17, at2, at3, at4, at5}
+use Rattle.model.proofs.machine.Machine.{at6, at7, at8, at9, both, draw, exhausted, finishes, four, give, goes}
+use Rattle.model.proofs.machine.Machine.{idle, isIdle, isStable, leave, none, one, ownLink, pop, push, pushing}
+use Rattle.model.proofs.machine.Machine.{putAnchor, putLink, raised, running, runs, same, sameLink, settled, tip}
+use Rattle.model.proofs.machine.Machine.{three, towards, two, withLink}
+use Rattle.model.proofs.places.{Shown.Shown, Effects.noted-false, Place2.place2, Place3.place3, Place4.place4}
+use Rattle.model.proofs.progress.Falls.{Falls, empty-running, fall1, fall10-done, fall10-failed, fall11, fall12}
+use Rattle.model.proofs.progress.Falls.{fall13, fall14-done, fall14-failed, fall15, fall16, fall17-failed, fall3}
+use Rattle.model.proofs.progress.Falls.{fall2-failed, fall4-failed, fall5, fall6, fall7, fall8, fall9-done}
 use Rattle.model.proofs.progress.Falls.{fall9-failed, none-running, popped-running, pushed-running}
-use Rattle.model.proofs.progress.Measure.{owed, owedAt}
-use Rattle.model.proofs.progress.Others.{heads}
-use Rattle.model.proofs.progress.Scale.{back-le, drawn-le, link-le, owed-scale, scale, scale-made, scale-some, scale-unmade, settled-le, together}
+use Rattle.model.proofs.progress.{Measure.{owed, owedAt}, Others.heads}
+use Rattle.model.proofs.progress.Scale.{back-le, drawn-le, link-le, owed-scale, scale, scale-made, scale-some}
+use Rattle.model.proofs.progress.Scale.{scale-unmade, settled-le, together}
 
 -- Neither an effect nor an answer.
 abbrev pub Silent : Shared → Move → Type 0
@@ -58,8 +55,8 @@ module _ (x : ℕ) (p : Place) (s : Shared) where
   }
 
   -- An effect or an answer.
-  loud : (m : Move) → (Silent s m → ⊥) → SilentFalls x p s m
-  loud m n = record { own = λ z. absurd (n z); fewer = λ z. absurd (n z); others = λ z u. absurd (n z) }
+  not-silent-falls : (m : Move) → (Silent s m → ⊥) → SilentFalls x p s m
+  not-silent-falls m n = record { own = λ z. absurd (n z); fewer = λ z. absurd (n z); others = λ z u. absurd (n z) }
 
 module _ (s : Shared) (r : Rec) where
   abbrev now : Bool
@@ -95,31 +92,31 @@ module _ (s : Shared) (r : Rec) where
     not-silent m n o z = let e = ap (λ (w : Noted). w .call .effects)
         (noted-false b q (s .anchor) (apply s (m .touch) .anchor) (m .answer) (z .1)) in omega arith
 
-    calm2 : (k : Kind) → r .kind ≡ k → Task at2 s h t r b → At at2 (two k s r)
-    calm2 push e w = by-test (At at2) now (λ _. loud _ _ s _ (λ z. pushed-running (z .0)))
-        (λ n. still _ _ s (one push s r) (one-none push) (fall2-failed 1 (scale s) (s .pooled) (scale-some s) s r h q all (w .0 .early) n push))
-    calm2 pop e w = by-test (At at2) now
+    silent2 : (k : Kind) → r .kind ≡ k → Task at2 s h t r b → At at2 (two k s r)
+    silent2 push e w = by-test (At at2) now (λ _. not-silent-falls _ _ s _ (λ z. pushed-running (z .0)))
+        (λ n. still _ _ s (one push s r) (one-none push) (fall2-failed 1 (scale s) (s .pooled) (scale-some s) s r h q all (w .0 .unfinished) n push))
+    silent2 pop e w = by-test (At at2) now
         (λ y. let m = runs (putAnchor (both (r .read) 0)) (goes r at11) in
         let v : Shown t s h q b m = rw y at (place2 t s h q b all r pop e w) in
-        loud _ _ s m (not-silent m (w .0 .before .none) (v .finish .after .once)))
-        (λ n. still _ _ s (one pop s r) (one-none pop) (fall2-failed 1 (scale s) (s .pooled) (scale-some s) s r h q all (w .0 .early) n pop))
+        not-silent-falls _ _ s m (not-silent m (w .0 .before .none) (v .finish .after .once)))
+        (λ n. still _ _ s (one pop s r) (one-none pop) (fall2-failed 1 (scale s) (s .pooled) (scale-some s) s r h q all (w .0 .unfinished) n pop))
 
-    calm4 : (k : Kind) → r .kind ≡ k → Task at4 s h t r b → At at4 (four k s r)
-    calm4 push e w = by-test (At at4) now
+    silent4 : (k : Kind) → r .kind ≡ k → Task at4 s h t r b → At at4 (four k s r)
+    silent4 push e w = by-test (At at4) now
         (λ y. let a = aimed (r .read) (r .side) (r .own) (pushing (r .side)) in
         let m = runs (putAnchor a) (finishes r a) in
         let v : Shown t s h q b m = rw y at (place4 t s h q b all r push e w) in
-        loud _ _ s m (not-silent m (w .0 .before .none) (v .finish .stage .0 .once)))
-        (λ n. still _ _ s (one push s r) (one-none push) (fall4-failed 1 (scale s) (s .pooled) (scale-some s) s r h q all (w .0 .early) n push))
-    calm4 pop e w = by-test (At at4) now
+        not-silent-falls _ _ s m (not-silent m (w .0 .before .none) (v .finish .stage .0 .once)))
+        (λ n. still _ _ s (one push s r) (one-none push) (fall4-failed 1 (scale s) (s .pooled) (scale-some s) s r h q all (w .0 .unfinished) n push))
+    silent4 pop e w = by-test (At at4) now
         (λ y. let m = runs (putAnchor (aimed (r .read) (r .side) (r .near) (r .read .status))) (goes r at11) in
         let v : Shown t s h q b m = rw y at (place4 t s h q b all r pop e w) in
-        loud _ _ s m (not-silent m (w .0 .before .none) (v .finish .after .once)))
-        (λ n. still _ _ s (one pop s r) (one-none pop) (fall4-failed 1 (scale s) (s .pooled) (scale-some s) s r h q all (w .0 .early) n pop))
+        not-silent-falls _ _ s m (not-silent m (w .0 .before .none) (v .finish .after .once)))
+        (λ n. still _ _ s (one pop s r) (one-none pop) (fall4-failed 1 (scale s) (s .pooled) (scale-some s) s r h q all (w .0 .unfinished) n pop))
 
-    calm3 : (k : Kind) → r .kind ≡ k → Task at3 s h t r b → At at3 (three k s r)
-    calm3 pop e w = still _ _ s _ (refl, λ _. omega arith) (fall3 1 (scale s) (s .pooled) (scale-some s) s r pop)
-    calm3 push e w = record {
+    silent3 : (k : Kind) → r .kind ≡ k → Task at3 s h t r b → At at3 (three k s r)
+    silent3 pop e w = still _ _ s _ (refl, λ _. omega arith) (fall3 1 (scale s) (s .pooled) (scale-some s) s r pop)
+    silent3 push e w = record {
       own = λ z. omega (
         arith,
         owed-scale s (not (r .side)) (r .own) (ownLink s r) refl made (goes r at4),
@@ -141,8 +138,8 @@ module _ (s : Shared) (r : Rec) where
         made = turn (place3 t s h q b all r push e w .rely (suc t) (λ z. omega arith) .anchor)
 
     -- 9: who finds the link as read makes the link back, which was not made.
-    calm9 : Task at9 s h t r b → At at9 (act at9 s r)
-    calm9 w = by-test (At at9) (sameLink (r .link) (s .link (way (r .read)) (r .near)))
+    silent9 : Task at9 s h t r b → At at9 (act at9 s r)
+    silent9 w = by-test (At at9) (sameLink (r .link) (s .link (way (r .read)) (r .near)))
         (λ y. done (sameLink-true _ _ y) (w .1 .chance) (rw y at (place9 t s h q b all r w)))
         (λ y. still _ _ s (leave none r) leave-none (fall9-failed 1 (scale s) (s .pooled) (scale-some s) s r (w .1) y))
       where
@@ -180,9 +177,9 @@ module _ (s : Shared) (r : Rec) where
             after′ = scale-made s′ e st (subst (λ (a : Anchor). Made (s′ .link) a e) (l .current) (z .finish .1 (l .current)))
 
     -- 10: who finds Anchor as read makes it STABLE.
-    calm10 : Task at10 s h t r b → At at10 (act at10 s r)
-    calm10 w = by-test (At at10) now
-        (λ y. by-test (At at10) (r .finishing) (λ _. loud _ _ s _ (λ z. pushed-running (z .0))) (λ f. done y f))
+    silent10 : Task at10 s h t r b → At at10 (act at10 s r)
+    silent10 w = by-test (At at10) now
+        (λ y. by-test (At at10) (r .finishing) (λ _. not-silent-falls _ _ s _ (λ z. pushed-running (z .0))) (λ f. done y f))
         (λ y. still _ _ s (leave none r) leave-none (fall10-failed 1 (scale s) (s .pooled) (scale-some s) s r y))
       where
         m : Move
@@ -203,9 +200,9 @@ module _ (s : Shared) (r : Rec) where
     silent-falls idle i w = absurd (not-both refl i)
     silent-falls at1 i w = inl (still _ _ s (one (r .kind) s r) (one-none (r .kind)) (fall1 1 (scale s) (s .pooled) (scale-some s) s r h q all (w .0)
         (r .kind)))
-    silent-falls at2 i w = inl (calm2 (r .kind) refl w)
-    silent-falls at3 i w = inl (calm3 (r .kind) refl w)
-    silent-falls at4 i w = inl (calm4 (r .kind) refl w)
+    silent-falls at2 i w = inl (silent2 (r .kind) refl w)
+    silent-falls at3 i w = inl (silent3 (r .kind) refl w)
+    silent-falls at4 i w = inl (silent4 (r .kind) refl w)
     silent-falls at5 i w = inl (still _ _ s (act at5 s r) (refl, λ _. omega arith) (fall5 1 (scale s) (s .pooled) (scale-some s) s r))
     silent-falls at6 i w = inl (still _ _ s (act at6 s r) (either Inside now (refl, λ _. omega arith) leave-none)
         (fall6 1 (scale s) (s .pooled) (scale-some s) s r))
@@ -215,15 +212,15 @@ module _ (s : Shared) (r : Rec) where
         (fall7 1 (scale s) (s .pooled) (scale-some s) s r))
     silent-falls at8 i w = inl (still _ _ s (act at8 s r) (either Inside now (refl, λ _. omega arith) leave-none)
         (fall8 1 (scale s) (s .pooled) (scale-some s) s r))
-    silent-falls at9 i w = inl (calm9 w)
-    silent-falls at10 i w = inl (calm10 w)
+    silent-falls at9 i w = inl (silent9 w)
+    silent-falls at10 i w = inl (silent10 w)
     silent-falls at11 i w = inl (by-test (At at11) (s .pooled)
         (λ e. record {
           own = λ z. fall11 1 (scale s) (s .pooled) (scale-some s) s r e .less (z .0);
           fewer = λ z. omega arith;
           others = λ z u. omega arith;
         })
-        (λ _. loud _ _ s _ (λ z. popped-running (z .0))))
+        (λ _. not-silent-falls _ _ s _ (λ z. popped-running (z .0))))
     silent-falls (draw at12) i w = inl (still _ _ s (act (draw at12) s r)
         (either (Plain (draw at12)) (exhausted (s .head)) (refl, λ e. absurd (none-running e)) (refl, λ _. omega arith))
         (fall12 1 (scale s) (s .pooled) (scale-some s) s r (w .0)))
@@ -246,5 +243,5 @@ module _ (s : Shared) (r : Rec) where
       fewer = λ z. omega arith;
       others = λ z u. omega arith;
     })
-    silent-falls (give at17) i w = inl (by-test (At (give at17)) top (λ _. loud _ _ s _ (λ z. popped-running (z .0)))
+    silent-falls (give at17) i w = inl (by-test (At (give at17)) top (λ _. not-silent-falls _ _ s _ (λ z. popped-running (z .0)))
         (λ n. still _ _ s _ (refl, λ _. omega arith) (fall17-failed 1 (scale s) (s .pooled) (scale-some s) s r n)))

@@ -1,40 +1,31 @@
 -- The same of the tables: an operation with no effect and no answer lets the sum of what all tasks owe fall by one at a step, and never rise.
-use mathlib.Core.Bool.{Bool, cond, false, true}
-use mathlib.Core.List.{List, [], _∷_}
-use mathlib.Core.Logic.{_⊎_, inl, inr}
+use mathlib.Core.{Bool.{Bool, cond, false, true}, List.{List, [], _∷_}, Logic.{_⊎_, inl, inr}}
 use mathlib.Core.Path.{_∙_, _≡_, ap, refl, subst, sym}
 use Prim.Native.Nat.{_*_, _+_, _<_, _≤_, suc, ℕ}
 use native.Mathlib.Omega.{arith}
 use lib.{Dec.eqb, ListN.set}
 use borrow.Author.Tests.{eqb-true}
-use Rattle.model.specs.Calls.{Acted, Done, act, actOn, back, finish, popStart, pushStart, putStart, step}
-use Rattle.model.specs.History.{Event, Ledger, Request, isEffect, run}
-use Rattle.model.specs.Places.{wordFound, move}
-use Rattle.model.specs.Ends.{answerEnds}
-use Rattle.model.specs.Progress.{any, pairs, stepping, steps, stretchLimit, tookEffectOrAnswered, tookEffectOrAnsweredBy}
-use Rattle.model.specs.Refusals.{among, popRefusal, pushRefusal, putRefusal, stepRefusal}
-use Rattle.model.specs.Tables.{Queue, Tables, asking, isPooled, recordAt, started, tablesOf, taskAt, unused, withCall, withTaken}
-use Rattle.model.specs.declared.Answer.the-variants.{Empty, NoFreeSlot, Popped, Pushed, Running}
-use Rattle.model.specs.declared.{Answer.Answer, Op.Op, Call.Call, Record.Record}
-use Rattle.model.specs.declared.Op.the-variants.{Pop, Push, PushPooled, Step}
+use Rattle.model.specs.Calls.{Acted, Done, act, actOn, back, finish, popStart, pushStart, pushPooledStart, step}
+use Rattle.model.specs.{History.{Event, Ledger, Request, isEffect, run}, Places.{wordFound, move}}
+use Rattle.model.specs.{Ends.answerEnds, Progress.tookEffectOrAnswered, Tables.{taskAt, unused}}
+use Rattle.model.specs.Progress.{tookEffectOrAnsweredBy, any, pairs, stepping, steps, stretchLimit}
+use Rattle.model.specs.Tables.{withCall, withTaken, Queue, Tables, asking, isPooled, recordAt, started, tablesOf}
+use Rattle.model.specs.Refusals.{among, popRefusal, pushRefusal, pushPooledRefusal, stepRefusal}
+use Rattle.model.specs.declared.Answer.{the-variants.{Empty, NoFreeSlot, Popped, Pushed, Running}, Answer}
+use Rattle.model.specs.declared.{Op.{Op, the-variants.{Pop, Push, PushPooled, Step}}, Call.Call, Record.Record}
 use Rattle.model.specs.declared.Outcome.the-variants.{Moved, Refused}
-use Rattle.model.proofs.tests.Truth.{by-test, either, not-both, or-false, split}
-use Rattle.model.proofs.lists.Store.{set-back}
-use Rattle.model.proofs.machine.{Book.effect, Machine.upd}
-use Rattle.model.proofs.machine.Machine as M
-use Rattle.model.proofs.invariant.Tasks.{Task}
-use Rattle.model.proofs.bridge.Accepted.{Lies, Stepping, pop-accepted, push-accepted, put-accepted, step-accepted}
-use Rattle.model.proofs.bridge.{Decoded.seenMove, EveryPlace.step-seen}
+use Rattle.model.proofs.{tests.Truth.{by-test, either, not-both, or-false, split}, lists.Store.set-back}
+use Rattle.model.proofs.{machine.{Book.effect, Machine.upd}, invariant.Tasks.Task, tags.Sum.total-le}
+use Rattle.model.proofs.bridge.Accepted.{Lies, Stepping, pop-accepted, push-accepted, push-pooled-accepted}
+use Rattle.model.proofs.bridge.{Accepted.step-accepted, Decoded.seenMove, EveryPlace.step-seen}
 use Rattle.model.proofs.bridge.Operations.{not-idle, put-back, reply, state-is, stepped, task-of}
 use Rattle.model.proofs.bridge.View.{answerSeen, placeOf, recOf, stateOf, view}
-use Rattle.model.proofs.ledger.{Matched.Matched, Served.effect-is}
-use Rattle.model.proofs.tags.Sum.{total-le}
+use Rattle.model.proofs.{ledger.{Matched.Matched, Served.effect-is}, progress.Others.{heads, heads-most, keep}}
+use Rattle.model.proofs.progress.{Reached.{Reached, act-reached}, Measure.owedAt, Bounds.owed-within}
 use Rattle.model.proofs.progress.AllOwed.{all, all-drawn, all-drop, all-keep, atHead, pairs-up}
-use Rattle.model.proofs.progress.{Bounds.owed-within, Measure.owedAt}
-use Rattle.model.proofs.progress.Others.{heads, heads-most, keep}
-use Rattle.model.proofs.progress.Reached.{Reached, act-reached}
 use Rattle.model.proofs.progress.Scale.{scale, scale-most, scale-some, together}
 use Rattle.model.proofs.progress.Together.{SilentFalls, Drawn, Silent, silent-falls}
+use Rattle.model.proofs.machine.Machine as M
 
 -- A step that tells nothing is silent.
 runs-on : (a : Answer) → answerEnds a ≡ false → answerSeen a ≡ M.running
@@ -116,12 +107,12 @@ module _ (n : ℕ) (q : Queue) (l : Ledger) (g : Matched n q l) (pooled : Bool) 
     abbrev owes : ℕ
     owes = together (view G) (recOf r)
 
-    abbrev Calms : M.Move → Type 0
-    Calms m = SilentFalls owes (placeOf (r .place)) (view G) m ⊎ Drawn owes (placeOf (r .place)) (view G) m
+    abbrev FallsOrDraws : M.Move → Type 0
+    FallsOrDraws m = SilentFalls owes (placeOf (r .place)) (view G) m ⊎ Drawn owes (placeOf (r .place)) (view G) m
 
-    calm : Calms (seenMove G r)
+    falls-or-draws : FallsOrDraws (seenMove G r)
     unfolding recOf stateOf view
-    calm = subst Calms (step-seen G (s .control) (g .links) r (s .fine) (s .busy) (s .room))
+    falls-or-draws = subst FallsOrDraws (step-seen G (s .control) (g .links) r (s .fine) (s .busy) (s .room))
         (silent-falls (view G) (recOf r) t (g .inv .owner) (g .book .queue) (g .book .calls t) (g .inv .whole) (placeOf (r .place))
         (not-idle (r .place) (s .busy) (s .fine .place))
         (subst (λ (x : M.Rec). Task (x .place) (view G) (g .inv .owner) t x (g .book .calls t)) (task-of q t (s .lies .known)) (g .inv .tasks t)))
@@ -136,11 +127,11 @@ module _ (n : ℕ) (q : Queue) (l : Ledger) (g : Matched n q l) (pooled : Bool) 
     unfolding recOf
     place = ap (λ (x : M.Rec). heads (x .place)) (task-of q t (s .lies .known))
 
-    calms : Silent (view G) (seenMove G r) → Calms (seenMove G r) → all pooled tasks next < all pooled tasks (stateOf q)
+    all-fall : Silent (view G) (seenMove G r) → FallsOrDraws (seenMove G r) → all pooled tasks next < all pooled tasks (stateOf q)
     unfolding stateOf view
-    calms silent (inl c) = all-drop (view G) (stateOf q .task) t (next .shared) (seenMove G r .rec) tasks (s .lies .known)
+    all-fall silent (inl c) = all-drop (view G) (stateOf q .task) t (next .shared) (seenMove G r .rec) tasks (s .lies .known)
         (omega (arith, c .fewer silent, place)) (c .others silent) pooled (omega (arith, c .own silent, same))
-    calms silent (inr c) = subst (λ w. all w tasks next < all w tasks (stateOf q)) (sym (c .pooled) ∙ way)
+    all-fall silent (inr c) = subst (λ w. all w tasks next < all w tasks (stateOf q)) (sym (c .pooled) ∙ way)
         (all-drawn (view G) (stateOf q .task) t (next .shared) (seenMove G r .rec) tasks (s .lies .known) (place ∙ c .before) (c .after) (c .others)
         (omega (arith, c .own, same)))
 
@@ -151,7 +142,7 @@ module _ (n : ℕ) (q : Queue) (l : Ledger) (g : Matched n q l) (pooled : Bool) 
         let is = state-is q (g .book) (g .inv) (g .links) t s in
         let silent : Silent (view G) (seenMove G r) =
         (runs-on a (w .1), ap (λ (x : M.State). effect (view G .anchor) (x .shared .anchor) (answerSeen a)) (sym is) ∙ effect-is ev a ∙ w .0) in
-        subst (λ (x : M.State). suc (all pooled tasks x) ≤ all pooled tasks (stateOf q)) (sym is) (omega (arith, calms silent calm))
+        subst (λ (x : M.State). suc (all pooled tasks x) ≤ all pooled tasks (stateOf q)) (sym is) (omega (arith, all-fall silent falls-or-draws))
 
   push-put : (side x y : ℕ) → Lies q t → r .place ≡ 0
       → Puts (Push side x y) (record { tables = withTaken G x y; task = withCall (taskAt q t) (started 0 side x y); outcome = Moved (Running 1) })
@@ -166,29 +157,29 @@ module _ (n : ℕ) (q : Queue) (l : Ledger) (g : Matched n q l) (pooled : Bool) 
   unfolding recOf
   pop-put side z free _ = omega (arith, start-all z free (G .labels) (G .marks) (started 1 side 0 0) (omega arith))
 
-  put-put : (side y : ℕ) → Lies q t → r .place ≡ 0 → Puts (PushPooled side y) (record {
+  push-pooled-put : (side y : ℕ) → Lies q t → r .place ≡ 0 → Puts (PushPooled side y) (record {
     tables = G;
     task = withCall (taskAt q t) (asking side y);
     outcome = Moved (Running 12);
   })
   unfolding recOf
-  put-put side y z free _ = omega (arith, start-all z free (G .labels) (G .marks) (asking side y) (omega arith))
+  push-pooled-put side y z free _ = omega (arith, start-all z free (G .labels) (G .marks) (asking side y) (omega arith))
 
   step-put : Stepping q t → Puts Step (finish G (taskAt q t) (move (G .control) r (wordFound G r)))
   unfolding finish
   step-put s z = omega (arith, step-all s z)
 
   pub act-all : (o : Op) → FallsUnlessTold o (act q t o)
-  unfolding act actOn pushStart putStart popStart step
+  unfolding act actOn pushStart pushPooledStart popStart step
   act-all (Push side x y) = by-test (Puts (Push side x y)) (eqb (pushRefusal G (among q t) r side x) 0)
       (λ e. let p = push-accepted q t side x (eqb-true _ _ e) in push-put side x y (p .starting .lies) (p .starting .free))
       (λ e. refused (Push side x y) (pushRefusal G (among q t) r side x))
   act-all (Pop side) = by-test (Puts (Pop side)) (eqb (popRefusal G (among q t) r side) 0)
       (λ e. let p = pop-accepted q t side (eqb-true _ _ e) in pop-put side (p .lies) (p .free))
       (λ e. refused (Pop side) (popRefusal G (among q t) r side))
-  act-all (PushPooled side y) = by-test (Puts (PushPooled side y)) (eqb (putRefusal G (among q t) r side) 0)
-      (λ e. let p = put-accepted q t side (eqb-true _ _ e) .0 in put-put side y (p .lies) (p .free))
-      (λ e. refused (PushPooled side y) (putRefusal G (among q t) r side))
+  act-all (PushPooled side y) = by-test (Puts (PushPooled side y)) (eqb (pushPooledRefusal G (among q t) r side) 0)
+      (λ e. let p = push-pooled-accepted q t side (eqb-true _ _ e) .0 in push-pooled-put side y (p .lies) (p .free))
+      (λ e. refused (PushPooled side y) (pushPooledRefusal G (among q t) r side))
   act-all Step = by-test (Puts Step) (eqb (stepRefusal G (among q t) r) 0)
       (λ e. step-put (step-accepted q t (eqb-true _ _ e))) (λ e. refused Step (stepRefusal G (among q t) r))
 
@@ -225,7 +216,7 @@ module _ (pooled : Bool) (tasks : ℕ) where
       let k : cond pooled (3 * pairs (atHead tasks (s .task))) 0 ≤ cond pooled (3 * pairs tasks) 0 = keep pooled (omega arith) (omega arith) in
       omega (arith, total-le _ 19 tasks one)
 
-  pub stretch-tells : (q : Queue) → Reached pooled tasks q → (os : List Request) → stretchLimit pooled tasks ≤ steps (run q os)
+  pub stretch-progresses : (q : Queue) → Reached pooled tasks q → (os : List Request) → stretchLimit pooled tasks ≤ steps (run q os)
       → any tookEffectOrAnswered (run q os) ≡ true
-  stretch-tells q z os le = split (any tookEffectOrAnswered (run q os)) (λ e. e)
+  stretch-progresses q z os le = split (any tookEffectOrAnswered (run q os)) (λ e. e)
       (λ e. absurd (omega (arith, le, run-all os q z e, all-bound q, enough pooled tasks (z .roomy .some))))

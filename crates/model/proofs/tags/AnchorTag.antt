@@ -1,15 +1,12 @@
 -- Anchor's tag and the changes of it that are still to come never grow together; a start at a tag up to 4,294,967,262 has room for all.
-use mathlib.Core.Bool.{Bool, cond, false, true}
-use mathlib.Core.Path.{_∙_, _≡_, ap, refl}
+use mathlib.Core.{Bool.{Bool, cond, false, true}, Path.{_∙_, _≡_, ap, refl}}
 use Prim.Native.Nat.{_*_, _+_, _<_, _≤_, suc, ℕ}
 use native.Mathlib.Omega.{arith}
-use Rattle.model.proofs.tests.Truth.{by-test}
-use Rattle.model.proofs.machine.{Book.BookCall, Laws.same-true, ByStep.by-step}
-use Rattle.model.proofs.machine.Machine.{Anchor, Kind, Move, Phase, Place, Rec, Shared, Status, act, aimed, apply, at10, at14, at2, at3}
-use Rattle.model.proofs.machine.Machine.{at4, at9, draw, inside, phase, pop, push, pushing, same, stable, upd}
-use Rattle.model.proofs.invariant.Owners.{Owner}
-use Rattle.model.proofs.invariant.Tags.{cost, owes, spent, unsettled, weight}
-use Rattle.model.proofs.invariant.Tasks.{Task, Three}
+use Rattle.model.proofs.{tests.Truth.by-test, invariant.Tasks.{Task, Three}}
+use Rattle.model.proofs.machine.{Book.BookCall, Laws.same-true, ByStep.by-step, Machine.{pushing, stable, upd}}
+use Rattle.model.proofs.machine.Machine.{Anchor, Kind, Move, Phase, Place, Rec, Shared, Status, act, aimed, at10}
+use Rattle.model.proofs.machine.Machine.{apply, at14, at2, at3, at4, at9, draw, inside, phase, pop, push, same}
+use Rattle.model.proofs.invariant.{Owners.Owner, Tags.{cost, owes, spent, unsettled, weight}}
 use Rattle.model.proofs.tags.Sum.{total, total-at, total-le}
 
 pub record WeightKept (s : Shared) (r : Rec) (m : Move) : Type 0 where
@@ -55,28 +52,28 @@ module _ (s : Shared) (h : ℕ → Owner) (t : ℕ) (r : Rec) (c : BookCall) whe
   abbrev Stands : Place → Type 0
   Stands p = (r .place ≡ p) × Task p s h t r c
 
-  pub light : (p : Place) → r .place ≡ p → Task p s h t r c → WeightKept s r (act p s r)
+  pub step-keeps-weight : (p : Place) → r .place ≡ p → Task p s h t r c → WeightKept s r (act p s r)
   unfolding costs
-  light p e w = record {
+  step-keeps-weight p e w = record {
     less = by-step s r Stands (λ m. weight (apply s (m .touch)) + cost (m .rec) ≤ weight s + cost r) (record {
       still = λ _. omega arith;
       quiet = λ p q a n w z e _ _. omega (arith, cost-at p (z .0), ap costs e);
       empty = λ _ _ _ _. omega arith;
       helped = λ _ _ _ _. omega arith;
-      two-push = λ z k y. omega (arith, weight-of y, owed at2 push (z .0) refl (z .1 .0 .early) k);
-      two-pop = λ z k y. omega (arith, weight-of y, owed at2 pop (z .0) refl (z .1 .0 .early) k);
+      two-push = λ z k y. omega (arith, weight-of y, owed at2 push (z .0) refl (z .1 .0 .unfinished) k);
+      two-pop = λ z k y. omega (arith, weight-of y, owed at2 pop (z .0) refl (z .1 .0 .unfinished) k);
       three = λ z _. omega (arith, cost-at at3 (z .0));
       four-push = λ z k y. omega (
         arith,
         weight-of y,
-        owed at4 push (z .0) refl (z .1 .0 .early) k,
+        owed at4 push (z .0) refl (z .1 .0 .unfinished) k,
         aimed-weight (r .read) (r .side) (r .own) (pushing (r .side)),
         ap unsettled (stable-of (r .kind) (z .1 .1)),
       );
       four-pop = λ z k y. omega (
         arith,
         weight-of y,
-        owed at4 pop (z .0) refl (z .1 .0 .early) k,
+        owed at4 pop (z .0) refl (z .1 .0 .unfinished) k,
         aimed-weight (r .read) (r .side) (r .near) (r .read .status),
       );
       nine = λ z _. omega (arith, cost-at at9 (z .0));

@@ -1,23 +1,18 @@
 -- The bounds on tags leave room for every change that a step makes.
-use mathlib.Core.Bool.{Bool, true}
-use mathlib.Core.Logic.{_≢_}
-use mathlib.Core.Path.{_∙_, _≡_, ap, refl, subst}
+use mathlib.Core.{Bool.{Bool, true}, Logic._≢_, Path.{_∙_, _≡_, ap, refl, subst}}
 use Prim.Native.Nat.{_+_, _<_, _≤_, suc, ℕ}
 use native.Mathlib.Omega.{arith}
 use lib.Dec.{eqb}
 use borrow.Author.Tests.{eq-eqb}
 use Rattle.word.specs.{Anchor.anchorOf, Link.linkOf}
-use Rattle.model.specs.Tables.{atPlace, Tables, isPooled}
-use Rattle.model.specs.declared.Call.{Call}
-use Rattle.model.proofs.tests.{ByPlace.by-place, Truth.by-test}
-use Rattle.model.proofs.machine.Laws.{aimed-tag, relink-same}
-use Rattle.model.proofs.machine.Machine as M
+use Rattle.model.specs.{Tables.{atPlace, Tables, isPooled}, declared.Call.Call}
+use Rattle.model.proofs.{tests.{ByPlace.by-place, Truth.by-test}, machine.Laws.{aimed-tag, relink-same}}
 use Rattle.model.proofs.invariant.Tags.{Tags, cost, owes, share, weight}
-use Rattle.model.proofs.bridge.Decoded.{RoomAt}
-use Rattle.model.proofs.bridge.Facts.{ControlFine, LinksFine, RecordFine}
+use Rattle.model.proofs.bridge.{Decoded.RoomAt, Facts.{ControlFine, LinksFine, RecordFine}}
 use Rattle.model.proofs.bridge.View.{anchorSeen, kindOf, linkAt, linkSeen, placeOf, recOf, view}
 use Rattle.model.proofs.bridge.Words.{same-link-word, same-word, towards-status}
 use Rattle.model.proofs.tags.{AnchorTag.WeightKept, LinkTag.Tagged}
+use Rattle.model.proofs.machine.Machine as M
 
 leave-touch : (g : M.Touch) (r : M.Rec) → M.leave g r .touch ≡ g
 leave-touch g r = by-test (λ (m : M.Move). m .touch ≡ g) (r .finishing) (λ e. refl) (λ e. refl)

@@ -1,23 +1,19 @@
 -- The head's tag never passes Anchor's by more than the tasks' shares, so it has room whenever Anchor's has. (Line 17.)
 -- Line 17 stands at every change of the head: at 14 a push has its slot now, at 17 a pop has none any more.
-use mathlib.Core.Bool.{Bool, cond, false, true}
-use mathlib.Core.Logic.{_≢_, _⊎_, inl, inr}
-use mathlib.Core.Path.{_∙_, _≡_, ap, refl}
+use mathlib.Core.{Bool.{Bool, cond, false, true}, Logic.{_≢_, _⊎_, inl, inr}, Path.{_∙_, _≡_, ap, refl}}
 use Prim.Native.Nat.{_+_, _<_, _≤_, suc, zero, ℕ}
 use native.Mathlib.Omega.{arith}
-use Rattle.model.proofs.tests.Truth.{decide-eq, either}
-use Rattle.model.proofs.machine.{Book.BookCall, ByStep.by-step}
-use Rattle.model.proofs.machine.Laws.{aimed-tag, same-true, sameLink-true}
-use Rattle.model.proofs.machine.Machine.{Anchor, Kind, Link, Move, Phase, Place, Rec, Shared, act, apply, at10, at11, at12, at14, at16}
-use Rattle.model.proofs.machine.Machine.{at17, at2, at3, at4, at9, draw, fetching, give, idle, inside, leaving, outside, phase, pop, push}
-use Rattle.model.proofs.machine.Machine.{pushing, returning, same, sameLink, upd}
-use Rattle.model.proofs.invariant.{Owners.Owner, Tasks.Task}
-use Rattle.model.proofs.invariant.Tags.{claims, cost, owes, share, shares, spent}
+use Rattle.model.proofs.{tests.Truth.{decide-eq, either}, machine.Machine.{same, sameLink, upd}}
+use Rattle.model.proofs.machine.{Book.BookCall, ByStep.by-step, Laws.{aimed-tag, same-true, sameLink-true}}
+use Rattle.model.proofs.machine.Machine.{Anchor, Kind, Link, Move, Phase, Place, Rec, Shared, act, apply, at10}
+use Rattle.model.proofs.machine.Machine.{at11, at12, at14, at16, at17, at2, at3, at4, at9, draw, fetching, give}
+use Rattle.model.proofs.machine.Machine.{idle, inside, leaving, outside, phase, pop, push, pushing, returning}
+use Rattle.model.proofs.invariant.{Owners.Owner, Tasks.Task, Tags.{claims, cost, owes, share, shares, spent}}
 use Rattle.model.proofs.tags.Sum.{total, total-at}
 
 -- A step raises the head's tag and the task's share by no more than Anchor's tag.
 pub record HeadBalanced (s : Shared) (r : Rec) (m : Move) : Type 0 where
-  pub even : apply s (m .touch) .head .tag + share (m .rec) + s .anchor .tag ≤ s .head .tag + share r + apply s (m .touch) .anchor .tag
+  pub balanced : apply s (m .touch) .head .tag + share (m .rec) + s .anchor .tag ≤ s .head .tag + share r + apply s (m .touch) .anchor .tag
 
 module _ (s : Shared) (h : ℕ → Owner) (t : ℕ) (r : Rec) (c : BookCall) where
   part : Phase → ℕ
@@ -49,30 +45,30 @@ module _ (s : Shared) (h : ℕ → Owner) (t : ℕ) (r : Rec) (c : BookCall) whe
   abbrev Stands : Place → Type 0
   Stands p = (r .place ≡ p) × Task p s h t r c
 
-  abbrev Evens : Move → Type 0
-  Evens m = apply s (m .touch) .head .tag + share (m .rec) + s .anchor .tag ≤ s .head .tag + share r + apply s (m .touch) .anchor .tag
+  abbrev TagsBalanced : Move → Type 0
+  TagsBalanced m = apply s (m .touch) .head .tag + share (m .rec) + s .anchor .tag ≤ s .head .tag + share r + apply s (m .touch) .anchor .tag
 
   pub fair : (p : Place) → r .place ≡ p → Task p s h t r c → HeadBalanced s r (act p s r)
   unfolding part
   fair p e w = record {
-    even = by-step s r Stands Evens (record {
+    balanced = by-step s r Stands TagsBalanced (record {
       still = λ _. omega arith;
       quiet = λ p q a n w z e _ _. omega (arith, share-at p (z .0), ap part e);
       empty = λ p z i k. omega (arith, pops p (z .0) i k);
       helped = λ p z i f. omega (arith, ends p (z .0) i f);
-      two-push = λ z k y. omega (arith, tag-of y, claimed at2 push (z .0) refl (z .1 .0 .early) k);
-      two-pop = λ z k y. omega (arith, tag-of y, claimed at2 pop (z .0) refl (z .1 .0 .early) k);
+      two-push = λ z k y. omega (arith, tag-of y, claimed at2 push (z .0) refl (z .1 .0 .unfinished) k);
+      two-pop = λ z k y. omega (arith, tag-of y, claimed at2 pop (z .0) refl (z .1 .0 .unfinished) k);
       three = λ z _. omega (arith, share-at at3 (z .0));
       four-push = λ z k y. omega (
         arith,
         tag-of y,
-        claimed at4 push (z .0) refl (z .1 .0 .early) k,
+        claimed at4 push (z .0) refl (z .1 .0 .unfinished) k,
         aimed-tag (r .read) (r .side) (r .own) (pushing (r .side)),
       );
       four-pop = λ z k y. omega (
         arith,
         tag-of y,
-        claimed at4 pop (z .0) refl (z .1 .0 .early) k,
+        claimed at4 pop (z .0) refl (z .1 .0 .unfinished) k,
         aimed-tag (r .read) (r .side) (r .near) (r .read .status),
       );
       nine = λ z _. omega (arith, share-at at9 (z .0));
@@ -83,7 +79,7 @@ module _ (s : Shared) (h : ℕ → Owner) (t : ℕ) (r : Rec) (c : BookCall) whe
       lacks = λ z _. omega (arith, share-at (draw at12) (z .0));
       -- At 14 a push has its slot now, at 17 a pop has none any more.
       draws = λ z y. let own : cond (r .finishing) 1 (claims (r .kind)) ≡ 0 =
-          ap (λ (f : Bool). cond f 1 (claims (r .kind))) (z .1 .1 .early) ∙ ap claims (z .1 .1 .kind) in
+          ap (λ (f : Bool). cond f 1 (claims (r .kind))) (z .1 .1 .unfinished) ∙ ap claims (z .1 .1 .kind) in
           omega (arith, head-of y, share-at (draw at14) (z .0));
       links = λ z. omega (arith, share-at (give at16) (z .0));
       gives = λ z y. omega (arith, head-of y, share-at (give at17) (z .0));
@@ -94,7 +90,7 @@ module _ (s : Shared) (h : ℕ → Owner) (t : ℕ) (r : Rec) (c : BookCall) whe
 pub head-step : (s : Shared) (f : ℕ → Rec) (n t : ℕ) → t < n → (m : Move) → HeadBalanced s (f t) m
     → s .head .tag + total (λ u. share (f u)) n ≤ s .anchor .tag + n
     → apply s (m .touch) .head .tag + total (λ u. share (upd f t (m .rec) u)) n ≤ apply s (m .touch) .anchor .tag + n
-head-step s f n t lt m e b = omega (arith, e .even, total-at share f t (m .rec) n lt)
+head-step s f n t lt m e b = omega (arith, e .balanced, total-at share f t (m .rec) n lt)
 
 -- A start: an idle task's share is 1, a new call's no more.
 pub head-start : (f : ℕ → Rec) (n t : ℕ) → t < n → (r : Rec) → f t .place ≡ idle → share r ≤ 1 → (head tag : ℕ)

@@ -1,22 +1,17 @@
 -- A link's tag is at most Anchor's, so it never passes 32 bits first.
-use mathlib.Core.Bool.{Bool, false, not, true}
-use mathlib.Core.List.{List}
-use mathlib.Core.Logic.{_≢_, _⊎_, inl, inr}
+use mathlib.Core.{Bool.{Bool, false, not, true}, List.List, Logic.{_≢_, _⊎_, inl, inr}}
 use mathlib.Core.Path.{_∙_, _≡_, ap, refl, subst, sym}
 use Prim.Native.Nat.{_<_, _≤_, suc, ℕ}
 use native.Mathlib.Omega.{arith}
 use Rattle.model.specs.declared.Entry.{Entry}
-use Rattle.model.proofs.tests.Truth.{decide-eq}
-use Rattle.model.proofs.lists.{All.all-map, Slots.slots}
-use Rattle.model.proofs.machine.{Book.BookCall, LinkTags.relink-keeps, ByStep.by-step}
-use Rattle.model.proofs.machine.Laws.{later, relink-across, relink-other, relink-same, same-side, same-true, sameLink-true}
-use Rattle.model.proofs.machine.Machine.{Anchor, Kind, Link, Move, Place, Rec, Shared, Status, act, aimed, apply, at9, both, inner, ownLink}
-use Rattle.model.proofs.machine.Machine.{push, pushing, relink, same, settled, tip, withAnchor, withLink}
-use Rattle.model.proofs.invariant.Owners.{Owner, Intact, held, queued}
-use Rattle.model.proofs.invariant.Rely.{Quiet, Turned}
-use Rattle.model.proofs.invariant.{Shape.Made, Tags.Tags}
-use Rattle.model.proofs.invariant.Tasks.{Live, Own, Task, way}
-use Rattle.model.proofs.chain.Links.{inner-in}
+use Rattle.model.proofs.{tests.Truth.decide-eq, lists.{All.all-map, Slots.slots}, chain.Links.inner-in}
+use Rattle.model.proofs.machine.{Book.BookCall, LinkTags.relink-keeps, ByStep.by-step, Laws.sameLink-true}
+use Rattle.model.proofs.machine.Laws.{later, relink-across, relink-other, relink-same, same-side, same-true}
+use Rattle.model.proofs.machine.Machine.{Anchor, Kind, Link, Move, Place, Rec, Shared, Status, act, aimed, apply}
+use Rattle.model.proofs.machine.Machine.{at9, both, inner, ownLink, push, pushing, relink, same, settled, tip}
+use Rattle.model.proofs.machine.Machine.{withAnchor, withLink}
+use Rattle.model.proofs.invariant.{Owners.{Owner, Intact, held, queued}, Rely.{Quiet, Turned}, Shape.Made}
+use Rattle.model.proofs.invariant.{Tags.Tags, Tasks.{Live, Own, Task, way}}
 use Rattle.model.proofs.places.{Owned.queued-free, Place3.own-rely, Place9.back-made}
 
 pub record Tagged (s : Shared) (m : Move) : Type 0 where

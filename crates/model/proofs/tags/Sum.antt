@@ -1,11 +1,8 @@
 -- Sums over the numbers below n.
-use mathlib.Core.Logic.{_≢_, _⊎_, inl, inr}
-use mathlib.Core.Path.{_∙_, _≡_, ap, fun-ext, refl, subst, sym}
+use mathlib.Core.{Logic.{_≢_, _⊎_, inl, inr}, Path.{_∙_, _≡_, ap, fun-ext, refl, subst, sym}}
 use Prim.Native.Nat.{_*_, _+_, _<_, _≤_, suc, zero, ℕ}
 use native.Mathlib.Omega.{arith}
-use Rattle.model.proofs.tests.Truth.{decide-eq}
-use Rattle.model.proofs.machine.Laws.{upd-other, upd-same}
-use Rattle.model.proofs.machine.Machine.{upd}
+use Rattle.model.proofs.{tests.Truth.decide-eq, machine.{Laws.{upd-other, upd-same}, Machine.upd}}
 
 unfoldable pub total : (ℕ → ℕ) → ℕ → ℕ
 total f zero = 0

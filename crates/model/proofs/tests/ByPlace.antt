@@ -1,6 +1,5 @@
 -- What holds at each of the places 1 to 17 holds at every busy place.
-use mathlib.Core.Logic.{_≢_, _⊎_, inl, inr}
-use mathlib.Core.Path.{_≡_, subst, sym}
+use mathlib.Core.{Logic.{_≢_, _⊎_, inl, inr}, Path.{_≡_, subst, sym}}
 use Prim.Native.Nat.{_+_, _<_, _≤_, suc, zero, ℕ}
 use native.Mathlib.Omega.{arith}
 use Rattle.model.proofs.tests.Truth.{decide-eq}

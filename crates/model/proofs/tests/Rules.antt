@@ -1,14 +1,11 @@
 -- Lists of tests and of rules: all tests hold, no rule applies.
-use mathlib.Core.Bool.{Bool, _&&_, cond, false, not, true}
-use mathlib.Core.List.{List, [], _∷_, _++_}
-use mathlib.Core.Logic.{_≢_}
+use mathlib.Core.{Bool.{Bool, _&&_, cond, false, not, true}, List.{List, [], _∷_, _++_}, Logic._≢_}
 use mathlib.Core.Path.{_∙_, _≡_, ap, refl, sym}
 use Prim.Native.Nat.{ℕ}
 use lib.Dec.{eqb}
 use borrow.Author.Tests.{eq-eqb, eqb-false, not-true}
-use Rattle.model.specs.Refusals.{Rule, first}
+use Rattle.model.specs.{Refusals.{Rule, first}, Lists.{All, every}}
 use Rattle.model.proofs.tests.Truth.{and-true, not-both}
-use Rattle.model.specs.Lists.{All, every}
 
 -- One fact after another: the facts of a list, which end with tt.
 infixr 4 _and_

@@ -1,6 +1,5 @@
 -- Truth values: branches with their test as an equation, and what holds where a test does.
-use mathlib.Core.Bool.{Bool, Bool·beq, _&&_, _||_, cond, false, true}
-use mathlib.Core.Logic.{_≢_, _⊎_, inl, inr}
+use mathlib.Core.{Bool.{Bool, Bool·beq, _&&_, _||_, cond, false, true}, Logic.{_≢_, _⊎_, inl, inr}}
 use mathlib.Core.Path.{_≡_, refl, sym}
 use Prim.Native.Nat.{ℕ}
 use native.Mathlib.Omega.{arith}

@@ -1,24 +1,16 @@
 -- An Anchor over a whole queue is sound.
-use mathlib.Core.Bool.{Bool, false, true}
-use mathlib.Core.List.{List}
-use mathlib.Core.Path.{_∙_, _≡_, refl, subst, sym}
+use mathlib.Core.{Bool.{Bool, false, true}, List.List, Path.{_∙_, _≡_, refl, subst, sym}}
 use Prim.Native.Nat.{_≤_, suc, zero, ℕ}
 use native.Mathlib.Omega.{arith}
 use Rattle.word.specs.Anchor.{anchorOf}
 use Rattle.model.specs.Places.{Touch, clearMark, nothing, setAnchor, setHead, setLink, setNext, takeSlot}
-use Rattle.model.specs.{Refusals.leavesSound, Tables.Tables}
-use Rattle.model.specs.declared.Entry.{Entry}
-use Rattle.model.proofs.lists.All.{all-front, all-map, all-seen}
-use Rattle.model.proofs.lists.{Deque.seen, Slots.slots}
-use Rattle.model.proofs.machine.Machine as M
-use Rattle.model.proofs.machine.Machine.{Shared, tip}
-use Rattle.model.proofs.invariant.Owners.{Owner, Intact, queued}
-use Rattle.model.proofs.invariant.Shape.{Shape}
-use Rattle.model.proofs.chain.Ends.{alike-stable, both-null}
-use Rattle.model.proofs.places.Owned.{queued-free}
-use Rattle.model.proofs.bridge.Facts.{AnchorFine}
-use Rattle.model.proofs.bridge.View.{anchorSeen, statusOf, touchSeen, view}
+use Rattle.model.specs.{Refusals.leavesSound, Tables.Tables, declared.Entry.Entry}
+use Rattle.model.proofs.lists.{All.{all-front, all-map, all-seen}, Deque.seen, Slots.slots}
+use Rattle.model.proofs.{machine.Machine.{Shared, tip}, invariant.{Owners.{Owner, Intact, queued}, Shape.Shape}}
+use Rattle.model.proofs.{chain.Ends.{alike-stable, both-null}, places.Owned.queued-free}
+use Rattle.model.proofs.bridge.{Facts.AnchorFine, View.{anchorSeen, statusOf, touchSeen, view}}
 use Rattle.model.proofs.unsound.{Moves.StatusFine, Tests.anchor-sound}
+use Rattle.model.proofs.machine.Machine as M
 
 tip-low : (s : Shared) (h : ℕ → Owner) (q : List Entry) → Intact s h q → (d : Bool) → tip (s .anchor) d ≤ s .slots
 tip-low s h q w d = subst (λ x. x ≤ s .slots) (sym (w .shape .tips d)) (all-front (λ x. x ≤ s .slots) (seen d (slots q)) 0

@@ -1,20 +1,14 @@
 -- What else holds of a record is kept by its own step; others' records keep it unchanged.
-use mathlib.Core.Bool.{Bool, false, true}
-use mathlib.Core.List.{List}
-use mathlib.Core.Logic.{_≢_, _⊎_, inl, inr}
+use mathlib.Core.{Bool.{Bool, false, true}, List.List, Logic.{_≢_, _⊎_, inl, inr}}
 use mathlib.Core.Path.{_∙_, _≡_, ap, refl, subst, sym}
 use Prim.Native.Nat.{ℕ}
 use Rattle.model.specs.declared.Entry.{Entry}
-use Rattle.model.proofs.tests.Truth.{not-both}
-use Rattle.model.proofs.lists.Slots.{slots}
-use Rattle.model.proofs.machine.{Book.BookCall, Laws.same-true, ByStep.by-step}
-use Rattle.model.proofs.machine.Machine.{Anchor, Link, Move, Phase, Place, Rec, Shared, act, at6, beside, fetching, inner, inside, isIdle}
-use Rattle.model.proofs.machine.Machine.{leaving, outside, phase, pop, pushing, reaches, returning, same, takes, tip}
-use Rattle.model.proofs.invariant.Fields.{Extra, Kept}
-use Rattle.model.proofs.invariant.Owners.{Owner, Intact}
-use Rattle.model.proofs.invariant.Tasks.{Task, Three, Two, way}
-use Rattle.model.proofs.chain.{Ends.ends-real, Links.inner-in}
-use Rattle.model.proofs.places.Owned.{push-pop}
+use Rattle.model.proofs.{tests.Truth.not-both, lists.Slots.slots, chain.{Ends.ends-real, Links.inner-in}}
+use Rattle.model.proofs.{machine.{Book.BookCall, Laws.same-true, ByStep.by-step}, places.Owned.push-pop}
+use Rattle.model.proofs.machine.Machine.{Anchor, Link, Move, Phase, Place, Rec, Shared, act, at6, beside, inner}
+use Rattle.model.proofs.machine.Machine.{fetching, inside, isIdle, leaving, outside, phase, pop, pushing, same}
+use Rattle.model.proofs.machine.Machine.{reaches, returning, takes, tip}
+use Rattle.model.proofs.invariant.{Fields.{Extra, Kept}, Owners.{Owner, Intact}, Tasks.{Task, Three, Two, way}}
 
 pub record Extras (m : Move) : Type 0 where
   pub extra : Extra (m .rec .place) (m .rec)
@@ -69,10 +63,10 @@ module _ (t : ℕ) (s : Shared) (h : ℕ → Owner) (q : List Entry) (c : BookCa
       helped = λ _ _ _ _. kept refl tt;
       two-push = λ _ _ _. kept refl tt;
       two-pop = λ z k _. let v = subst (λ k. Two k (r .read)) k (z .1 .1) in
-          kept refl (k, z .1 .0 .early, both-tip (r .read) (r .side) (v .0) (v .1), z .2 .kept .2 k);
+          kept refl (k, z .1 .0 .unfinished, both-tip (r .read) (r .side) (v .0) (v .1), z .2 .kept .2 k);
       three = λ z _. kept refl (z .2 .kept);
       four-push = λ z k _. kept refl (λ _. k, z .2 .kept .1, z .2 .kept .2);
-      four-pop = λ z k e. kept refl (k, z .1 .0 .early, end4 (subst (λ k. Three k (r .read)) k (z .1 .1)) e, z .2 .kept .2 k);
+      four-pop = λ z k e. kept refl (k, z .1 .0 .unfinished, end4 (subst (λ k. Three k (r .read)) k (z .1 .1)) e, z .2 .kept .2 k);
       nine = λ z _. kept refl (z .2 .kept);
       ten = λ z _ _. kept refl (z .2 .kept);
       ten-last = λ _ _ _. kept refl tt;

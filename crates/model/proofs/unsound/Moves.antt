@@ -1,21 +1,17 @@
 -- A move keeps a record within its meaning, and a new Anchor has one of the three statuses.
-use mathlib.Core.Bool.{Bool, true}
-use mathlib.Core.Logic.{_≢_}
-use mathlib.Core.Path.{_≡_, refl, subst, sym}
+use mathlib.Core.{Bool.{Bool, true}, Logic._≢_, Path.{_≡_, refl, subst, sym}}
 use Prim.Native.Nat.{_%_, _*_, _+_, _/_, _≤_, ℕ}
 use native.Mathlib.Omega.{arith}
 use lib.Dec.{eqb, leb}
 use borrow.Author.Tests.{leb-true}
-use Rattle.word.specs.Anchor.{anchorOf, packAnchor}
-use Rattle.word.specs.Link.{linkOf, spareOf}
-use Rattle.model.specs.Places.{Touch, clearMark, move, new4, nothing, row, setAnchor, setHead, setLink, setNext, sideOf, takeSlot}
-use Rattle.model.specs.{Refusals.leavesSound, Route.goes}
+use Rattle.word.specs.{Anchor.{anchorOf, packAnchor}, Link.{linkOf, spareOf}}
+use Rattle.model.specs.Places.{Touch, clearMark, move, new4, nothing, row, setAnchor, setHead, setLink, setNext}
+use Rattle.model.specs.{Places.{sideOf, takeSlot}, Refusals.leavesSound, Route.goes}
 use Rattle.model.specs.declared.{Control.Control, Call.Call}
-use Rattle.model.proofs.tests.Truth.{by-test}
-use Rattle.model.proofs.bridge.{ByMove.by-move, View.kindOf, Touches.row-fine}
-use Rattle.model.proofs.unsound.Suits.{Suits, kind-pop, kind-push}
-use Rattle.model.proofs.bridge.Facts.{AnchorFine, RecordFine, anchor-fine}
 use Rattle.model.specs.Tables.{withLink, withNeighbour, withOwn, withSeen}
+use Rattle.model.proofs.{tests.Truth.by-test, bridge.{ByMove.by-move, View.kindOf, Touches.row-fine}}
+use Rattle.model.proofs.bridge.Facts.{AnchorFine, RecordFine, anchor-fine}
+use Rattle.model.proofs.unsound.Suits.{Suits, kind-pop, kind-push}
 
 -- What a move leaves of a record.
 pub record Keeps (slots : ℕ) (r r′ : Call) : Type 0 where

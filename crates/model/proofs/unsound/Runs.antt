@@ -1,29 +1,23 @@
 -- No operation is refused 34, and each leaves the tables safe.
-use mathlib.Core.Bool.{Bool, _&&_, false, not, true}
-use mathlib.Core.List.{List, [], _∷_}
-use mathlib.Core.Logic.{_≢_, _⊎_, inl, inr}
+use mathlib.Core.{Bool.{Bool, _&&_, false, not, true}, List.{List, [], _∷_}, Logic.{_≢_, _⊎_, inl, inr}}
 use mathlib.Core.Path.{_≡_, ap, subst, sym}
 use Prim.Native.Nat.{suc, ℕ}
 use native.Mathlib.Omega.{arith}
 use lib.Dec.{eqb, leb}
 use borrow.Author.Tests.{eq-eqb, eqb-false, eqb-true, not-false}
-use Rattle.model.specs.Calls.{Acted, Done, act, actOn, back, finish, popStart, pushStart, putStart, step}
-use Rattle.model.specs.History.{Ledger, NeverUnsound, Request, final, run}
-use Rattle.model.specs.Places.{wordFound}
-use Rattle.model.specs.declared.{Asked.Asked, Answer.Answer, Op.Op, Call.Call, Record.Record}
-use Rattle.model.specs.Refusals.{among, fits, late, namedPush, nothingAsked, pooledPush}
-use Rattle.model.specs.Refusals.{popRefusal, pushRefusal, putRefusal, startRefusal, stepRefusal, stepSound}
+use Rattle.model.specs.Calls.{Acted, Done, act, actOn, back, finish, popStart, pushStart, pushPooledStart, step}
+use Rattle.model.specs.{History.{Ledger, NeverUnsound, Request, final, run}, Places.wordFound}
+use Rattle.model.specs.declared.{Asked.Asked, Answer.Answer, Op.{Op, the-variants.{Pop, Push, PushPooled, Step}}}
+use Rattle.model.specs.declared.{Call.Call, Record.Record, Outcome.the-variants.{Moved, Refused}}
+use Rattle.model.specs.Refusals.{among, fits, late, namedPush, nothingAsked, pooledPush, popRefusal, pushRefusal}
+use Rattle.model.specs.Refusals.{pushPooledRefusal, startRefusal, stepRefusal, stepSound}
 use Rattle.model.specs.Sound.{controlSound, recordSound}
 use Rattle.model.specs.Tables.{Queue, Tables, asking, isPooled, recordAt, started, taskAt, unused}
-use Rattle.model.specs.declared.Op.the-variants.{Pop, Push, PushPooled, Step}
-use Rattle.model.specs.declared.Outcome.the-variants.{Moved, Refused}
-use Rattle.model.proofs.tests.Truth.{by-test, decide-eq, not-both}
-use Rattle.model.proofs.lists.Store.{set-back}
-use Rattle.model.proofs.bridge.Accepted.{Lies, lies, pop-accepted, push-accepted, put-accepted, step-accepted}
-use Rattle.model.proofs.ledger.{EveryOperation.act-good, Matched.Matched}
-use Rattle.model.proofs.unsound.{Safe.Safe, StepSafe.step-safe}
-use Rattle.model.proofs.unsound.StartSafe.{early-room, pop-begins, push-begins, put-begins, start-safe}
-use Rattle.model.proofs.unsound.StepSound.{own-sound, step-sound}
+use Rattle.model.proofs.{tests.Truth.{by-test, decide-eq, not-both}, lists.Store.set-back}
+use Rattle.model.proofs.bridge.Accepted.{Lies, lies, pop-accepted, push-accepted, push-pooled-accepted}
+use Rattle.model.proofs.{bridge.Accepted.step-accepted, ledger.{EveryOperation.act-good, Matched.Matched}}
+use Rattle.model.proofs.unsound.{Safe.Safe, StepSafe.step-safe, StepSound.{own-sound, step-sound}}
+use Rattle.model.proofs.unsound.StartSafe.{early-room, pop-begins, push-begins, push-pooled-begins, start-safe}
 
 module _ (n : ℕ) (q : Queue) (l : Ledger) (g : Matched n q l) (f : Safe q) (t : ℕ) where
   abbrev r : Call
@@ -92,7 +86,7 @@ module _ (n : ℕ) (q : Queue) (l : Ledger) (g : Matched n q l) (f : Safe q) (t 
   moved a e = let w : _≡_ {A = ℕ} 0 1 = cc in omega arith
 
   pub act-safe : (o : Op) → After (act q t o)
-  unfolding act actOn pushStart putStart popStart step finish
+  unfolding act actOn pushStart pushPooledStart popStart step finish
   act-safe (Push side x y) = by-test Puts (eqb (pushRefusal G (among q t) r side x) 0)
       (λ e. let p = push-accepted q t side x (eqb-true _ _ e) in (
         moved _,
@@ -108,13 +102,14 @@ module _ (n : ℕ) (q : Queue) (l : Ledger) (g : Matched n q l) (f : Safe q) (t 
             (early-room q f t (p .lies .known) (started 1 side 0 0) (p .early)),
       ))
       (λ e. refused (popRefusal G (among q t) r side) (start-34 side nothingAsked))
-  act-safe (PushPooled side y) = by-test Puts (eqb (putRefusal G (among q t) r side) 0)
-      (λ e. let p = put-accepted q t side (eqb-true _ _ e) in (
+  act-safe (PushPooled side y) = by-test Puts (eqb (pushPooledRefusal G (among q t) r side) 0)
+      (λ e. let p = push-pooled-accepted q t side (eqb-true _ _ e) in (
         moved _,
-        start-safe q f t (p .0 .lies) (p .0 .free) _ _ (asking side y) (put-begins (isPooled (G .control)) (G .control .slots) side y (p .1) (p .0 .side))
+        start-safe q f t (p .0 .lies) (p .0 .free) _ _ (asking side y)
+            (push-pooled-begins (isPooled (G .control)) (G .control .slots) side y (p .1) (p .0 .side))
             (early-room q f t (p .0 .lies .known) (asking side y) (p .0 .early)),
       ))
-      (λ e. refused (putRefusal G (among q t) r side) (start-34 side (pooledPush G)))
+      (λ e. refused (pushPooledRefusal G (among q t) r side) (start-34 side (pooledPush G)))
   act-safe Step = by-test Puts (eqb (stepRefusal G (among q t) r) 0)
       (λ e. let s = step-accepted q t (eqb-true _ _ e) in (moved _, step-safe n q l g f t (s .lies) (s .busy)))
       (λ e. refused (stepRefusal G (among q t) r) step-34)

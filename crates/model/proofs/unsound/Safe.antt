@@ -1,13 +1,9 @@
 -- What holds between two operations besides the invariant, so that no test of soundness ever fails.
 use mathlib.Core.{Bool.true, Logic._≢_, Path._≡_}
 use Prim.Native.Nat.{_+_, _<_, _≤_, ℕ}
-use Rattle.model.specs.Sound.{controlSound}
-use Rattle.model.specs.Tables.{Queue, isPooled, recordAt}
-use Rattle.model.proofs.invariant.Fields.{Extra}
-use Rattle.model.proofs.invariant.Tags.{Tags, cost, share, weight}
-use Rattle.model.proofs.bridge.Facts.{RecordFine}
-use Rattle.model.proofs.bridge.View.{stateOf, view}
-use Rattle.model.proofs.tags.Sum.{total}
+use Rattle.model.specs.{Sound.controlSound, Tables.{Queue, isPooled, recordAt}}
+use Rattle.model.proofs.{invariant.{Fields.Extra, Tags.{Tags, cost, share, weight}}, tags.Sum.total}
+use Rattle.model.proofs.bridge.{Facts.RecordFine, View.{stateOf, view}}
 
 pub record Safe (q : Queue) : Type 0 where
   -- Control and Anchor are sound,

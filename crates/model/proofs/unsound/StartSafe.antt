@@ -1,30 +1,19 @@
 -- A start leaves everything as sound as it was: its tag limit leaves room for the changes that the new call owes.
-use mathlib.Core.Bool.{Bool, false, true}
-use mathlib.Core.List.{List}
-use mathlib.Core.Logic.{_≢_, _⊎_, inl, inr}
+use mathlib.Core.{Bool.{Bool, false, true}, List.List, Logic.{_≢_, _⊎_, inl, inr}}
 use mathlib.Core.Path.{_∙_, _≡_, ap, refl, subst, sym}
 use Prim.Native.Nat.{_+_, _<_, _≤_, ℕ}
 use native.Mathlib.Omega.{arith}
-use lib.ListN.{getD, set}
-use lib.Seq.{getD-set-other, getD-set-same}
+use lib.{ListN.{getD, set}, Seq.{getD-set-other, getD-set-same}}
 use borrow.Author.Tests.{ltb-false}
 use Rattle.word.specs.Anchor.{anchorOf}
-use Rattle.model.specs.Refusals.{late}
-use Rattle.model.specs.Tables.{Queue, Tables, asking, isPooled, recordAt, started, tablesOf, taskAt, unused, withCall}
-use Rattle.model.specs.declared.{Call.Call, Record.Record}
-use Rattle.model.proofs.tests.Truth.{decide-eq, not-both}
-use Rattle.model.proofs.machine.Laws.{upd-other, upd-same}
-use Rattle.model.proofs.machine.Machine as M
-use Rattle.model.proofs.machine.Machine.{upd}
-use Rattle.model.proofs.invariant.Fields.{Extra}
-use Rattle.model.proofs.invariant.Tags.{cost, share, weight}
-use Rattle.model.proofs.places.Owned.{push-pop}
-use Rattle.model.proofs.bridge.Accepted.{Lies}
-use Rattle.model.proofs.bridge.Facts.{AnchorFine, RecordFine, control-fine}
-use Rattle.model.proofs.bridge.Operations.{put-back, task-of}
-use Rattle.model.proofs.bridge.View.{placeOf, recOf, stateOf, view}
+use Rattle.model.specs.{Refusals.late, Tables.withCall, declared.{Call.Call, Record.Record}}
+use Rattle.model.specs.Tables.{Queue, Tables, asking, isPooled, recordAt, started, tablesOf, taskAt, unused}
+use Rattle.model.proofs.{tests.Truth.{decide-eq, not-both}, machine.{Laws.{upd-other, upd-same}, Machine.upd}}
+use Rattle.model.proofs.{invariant.{Fields.Extra, Tags.{cost, share, weight}}, places.Owned.push-pop}
+use Rattle.model.proofs.{bridge.{Accepted.Lies, Facts.{AnchorFine, RecordFine, control-fine}}, unsound.Safe.Safe}
+use Rattle.model.proofs.bridge.{Operations.{put-back, task-of}, View.{placeOf, recOf, stateOf, view}}
 use Rattle.model.proofs.tags.{AnchorTag.start-bound, HeadTag.head-start, Sum.total}
-use Rattle.model.proofs.unsound.Safe.{Safe}
+use Rattle.model.proofs.machine.Machine as M
 
 zero-anchor : (slots : ℕ) → AnchorFine slots (anchorOf 0)
 zero-anchor slots = record { status = omega arith; left = omega arith; right = omega arith; null = λ e. refl; full = λ e. refl; single = λ e. refl }
@@ -85,9 +74,9 @@ pop-begins pooled slots side hs = record {
   share = omega arith;
 }
 
-pub put-begins : (pooled : Bool) (slots side y : ℕ) → pooled ≡ true → side ≤ 1 → Begins pooled slots (asking side y)
+pub push-pooled-begins : (pooled : Bool) (slots side y : ℕ) → pooled ≡ true → side ≤ 1 → Begins pooled slots (asking side y)
 unfolding recOf
-put-begins pooled slots side y p hs = record {
+push-pooled-begins pooled slots side y p hs = record {
   fine = asking-fine pooled slots side y p hs;
   extra = record { kept = refl; near = λ b. absurd (not-both b refl) };
   share = omega arith;

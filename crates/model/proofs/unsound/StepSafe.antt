@@ -1,41 +1,26 @@
 -- A step leaves everything as sound as it was.
-use mathlib.Core.Bool.{Bool, cond, true}
-use mathlib.Core.Logic.{_≢_, _⊎_, inl, inr}
-use mathlib.Core.Path.{_∙_, _≡_, ap, refl, subst, subst₂, sym}
+use mathlib.Core.{Bool.{Bool, cond, true}, Logic.{_≢_, _⊎_, inl, inr}, Path.{_∙_, _≡_, ap, refl, subst, subst₂, sym}}
 use Prim.Native.Nat.{_+_, _<_, _≤_, ℕ}
 use native.Mathlib.Omega.{arith}
-use lib.Dec.{eqb}
-use lib.ListN.{getD, set}
-use lib.Seq.{getD-set-other, getD-set-same}
+use lib.{Dec.eqb, ListN.{getD, set}, Seq.{getD-set-other, getD-set-same}}
 use borrow.Author.Tests.{le-leb}
-use Rattle.model.specs.{Calls.finish, History.Ledger, Refusals.leavesSound}
-use Rattle.model.specs.Places.{Move, Touch, apply, clearMark, wordFound, move, nothing, setAnchor, setHead, setLink, setNext, takeSlot}
-use Rattle.model.specs.Route.{counted, goes}
-use Rattle.model.specs.Sound.{controlSound, controlTests}
+use Rattle.model.specs.{Calls.finish, History.Ledger, Refusals.leavesSound, Places.{setLink, setNext, takeSlot}}
+use Rattle.model.specs.Places.{Move, Touch, apply, clearMark, wordFound, move, nothing, setAnchor, setHead}
+use Rattle.model.specs.{Route.{counted, goes}, Sound.{controlSound, controlTests}}
 use Rattle.model.specs.Tables.{atPlace, Queue, Tables, idle, isPooled, recordAt, taskAt, unused}
 use Rattle.model.specs.declared.{Call.Call, Record.Record}
-use Rattle.model.proofs.tests.Rules.{_and_, passes, tests}
-use Rattle.model.proofs.tests.Truth.{decide-eq}
-use Rattle.model.proofs.machine.{Book.BookCall, Machine.upd}
-use Rattle.model.proofs.machine.Laws.{upd-other, upd-same}
-use Rattle.model.proofs.machine.Machine as M
-use Rattle.model.proofs.invariant.{Fields.Extra, Owners.Owner, Tasks.Task}
-use Rattle.model.proofs.invariant.Tags.{Tags, cost, share, weight}
-use Rattle.model.proofs.bridge.{Accepted.Lies, Facts.RecordFine}
-use Rattle.model.proofs.bridge.Decoded.{next, seenMove}
+use Rattle.model.proofs.{tests.{Rules.{_and_, passes, tests}, Truth.decide-eq}, ledger.Matched.Matched}
+use Rattle.model.proofs.{machine.{Book.BookCall, Machine.upd, Laws.{upd-other, upd-same}}, tags.LinkTag.Tagged}
+use Rattle.model.proofs.invariant.{Fields.Extra, Owners.Owner, Tasks.Task, Tags.{Tags, cost, share, weight}}
+use Rattle.model.proofs.bridge.{Accepted.Lies, Facts.RecordFine, Decoded.{next, seenMove}}
 use Rattle.model.proofs.bridge.Operations.{not-idle, state-is, step-seen-keeps, step-task, stepped, task-of}
 use Rattle.model.proofs.bridge.Stores.{touched-pooled, touched-slots, touched-tasks}
-use Rattle.model.proofs.bridge.View.{kindOf, placeOf, recOf, stateOf, view}
-use Rattle.model.proofs.ledger.Matched.{Matched}
-use Rattle.model.proofs.tags.AnchorTag.{WeightKept, step-bound}
-use Rattle.model.proofs.tags.HeadTag.{HeadBalanced, head-step}
-use Rattle.model.proofs.tags.{LinkTag.Tagged, Sum.total}
-use Rattle.model.proofs.unsound.FieldsKept.{Extras, act-extra}
-use Rattle.model.proofs.unsound.Moves.{Keeps, goes-fine, move-keeps}
-use Rattle.model.proofs.unsound.Safe.{Safe}
-use Rattle.model.proofs.unsound.Suits.{Suits, suits}
-use Rattle.model.proofs.unsound.StepSound.{control-is, head-balanced, h, weight-kept, met-link, met-next, new-sound, own-extra, own-task, seen}
-use Rattle.model.proofs.unsound.StepSound.{stepping, tagged}
+use Rattle.model.proofs.{bridge.View.{kindOf, placeOf, recOf, stateOf, view}, unsound.Suits.{Suits, suits}}
+use Rattle.model.proofs.tags.{AnchorTag.{WeightKept, step-bound}, HeadTag.{HeadBalanced, head-step}, Sum.total}
+use Rattle.model.proofs.unsound.{FieldsKept.{Extras, act-extra}, Moves.{Keeps, goes-fine, move-keeps}, Safe.Safe}
+use Rattle.model.proofs.unsound.StepSound.{control-is, head-balanced, h, weight-kept, met-link, met-next, seen}
+use Rattle.model.proofs.unsound.StepSound.{new-sound, own-extra, own-task, stepping, tagged}
+use Rattle.model.proofs.machine.Machine as M
 
 -- No touch changes the way of the queue.
 apply-pooled : (s : M.Shared) (w : M.Touch) → M.apply s w .pooled ≡ s .pooled

@@ -1,43 +1,28 @@
 -- A step of a busy task passes every test of soundness.
-use mathlib.Core.Bool.{Bool, _||_, cond, false, not, true}
-use mathlib.Core.Logic.{_≢_}
-use mathlib.Core.Path.{_∙_, _≡_, ap, refl, subst, sym}
+use mathlib.Core.{Bool.{Bool, _||_, cond, false, not, true}, Logic._≢_, Path.{_∙_, _≡_, ap, refl, subst, sym}}
 use Prim.Native.Nat.{_+_, _<_, _≤_, suc, ℕ}
 use native.Mathlib.Omega.{arith}
 use lib.Dec.{eqb, leb}
 use borrow.Author.Tests.{eq-eqb, eqb-true, le-leb, ne-eqb}
-use Rattle.word.specs.Anchor.{anchorOf}
-use Rattle.word.specs.Link.{linkOf, spareOf}
+use Rattle.word.specs.{Anchor.anchorOf, Link.{linkOf, spareOf}}
 use Rattle.word.specs.declared.Anchor as word
-use Rattle.model.specs.History.{Ledger}
-use Rattle.model.specs.Places.{Move, wordFound, linkSide, move, row, sideOf}
+use Rattle.model.specs.{History.Ledger, Places.{Move, wordFound, linkSide, move, row, sideOf}, declared.Call.Call}
 use Rattle.model.specs.Refusals.{leavesSound, meetsHead, meetsLink, needsRow, stepSound, stepTests}
-use Rattle.model.specs.Sound.{from1, linkSound, recordSound}
+use Rattle.model.specs.{Sound.{from1, linkSound, recordSound}, Sides.{statusSide, near}}
 use Rattle.model.specs.Tables.{atPlace, Queue, Tables, isPooled, recordAt}
-use Rattle.model.specs.declared.Call.{Call}
-use Rattle.model.proofs.tests.ByPlace.{by-place}
-use Rattle.model.proofs.tests.Rules.{_and_, passes}
+use Rattle.model.proofs.{tests.{ByPlace.by-place, Rules.{_and_, passes}}, ledger.Matched.Matched}
 use Rattle.model.proofs.tests.Truth.{by-test, not-both, or-cases, or-first, or-second, split}
-use Rattle.model.proofs.machine.Book as B
-use Rattle.model.proofs.machine.Machine as M
-use Rattle.model.proofs.invariant.Fields.{Extra}
-use Rattle.model.proofs.invariant.Tags.{cost, share}
-use Rattle.model.proofs.invariant.Tasks.{Task, Three}
-use Rattle.model.proofs.bridge.Accepted.{Lies, Stepping}
-use Rattle.model.proofs.bridge.Decoded.{RoomAt, seenMove}
-use Rattle.model.proofs.bridge.{EveryPlace.step-seen, Room.room-testing}
-use Rattle.model.proofs.bridge.Facts.{AnchorFine, ControlFine, RecordFine, control-fine}
-use Rattle.model.proofs.bridge.Operations.{step-seen-keeps, task-of}
-use Rattle.model.proofs.bridge.Touches.{beyond, row-fine}
+use Rattle.model.proofs.invariant.{Fields.Extra, Tags.{cost, share}, Tasks.{Task, Three}}
+use Rattle.model.proofs.bridge.{Accepted.{Lies, Stepping}, Decoded.{RoomAt, seenMove}, EveryPlace.step-seen}
+use Rattle.model.proofs.bridge.{Room.room-testing, Facts.{AnchorFine, ControlFine, RecordFine, control-fine}}
+use Rattle.model.proofs.bridge.{Operations.{step-seen-keeps, task-of}, Touches.{beyond, row-fine}}
 use Rattle.model.proofs.bridge.View.{anchorSeen, linkAt, placeOf, recOf, stateOf, view}
-use Rattle.model.proofs.ledger.Matched.{Matched}
-use Rattle.model.proofs.tags.AnchorTag.{WeightKept, light}
-use Rattle.model.proofs.tags.{Bounds.room-bounded, Sum.total-one}
-use Rattle.model.proofs.tags.HeadTag.{HeadBalanced, fair, head-room}
-use Rattle.model.proofs.tags.LinkTag.{Tagged, tags}
+use Rattle.model.proofs.tags.{AnchorTag.{WeightKept, step-keeps-weight}, Bounds.room-bounded, Sum.total-one}
+use Rattle.model.proofs.tags.{HeadTag.{HeadBalanced, fair, head-room}, LinkTag.{Tagged, tags}}
 use Rattle.model.proofs.unsound.{AnchorFields.touch-sound, Moves.move-status, Safe.Safe}
 use Rattle.model.proofs.unsound.Tests.{link-sound, record-sound, unstable}
-use Rattle.model.specs.Sides.{sideNamed, near}
+use Rattle.model.proofs.machine.Book as B
+use Rattle.model.proofs.machine.Machine as M
 
 near-real : (n : ℕ) (a : word.Anchor) → AnchorFine n a → a .left ≢ a .right → (b : Bool) → cond b (a .right) (a .left) ≢ 0
 near-real n a h ne true z = ne (h .full z ∙ sym z)
@@ -73,7 +58,7 @@ module _ (n : ℕ) (q : Queue) (l : Ledger) (g : Matched n q l) (f : Safe q) (t 
 
     pub weight-kept : WeightKept (view G) (recOf r) (M.act (placeOf (r .place)) (view G) (recOf r))
     unfolding recOf
-    weight-kept = light (view G) (g .inv .owner) t (recOf r) (b .calls t) (placeOf (r .place)) refl own-task
+    weight-kept = step-keeps-weight (view G) (g .inv .owner) t (recOf r) (b .calls t) (placeOf (r .place)) refl own-task
 
     pub tagged : Tagged (view G) (M.act (placeOf (r .place)) (view G) (recOf r))
     unfolding stateOf
@@ -129,9 +114,9 @@ module _ (n : ℕ) (q : Queue) (l : Ledger) (g : Matched n q l) (f : Safe q) (t 
 
     row5 : Says 5
     unfolding recOf row sideOf
-    row5 y x = near-fine (sideNamed (anchorOf (r .seen) .status)) (near-real (G .control .slots) (anchorOf (r .seen)) (h .seen)
+    row5 y x = near-fine (statusSide (anchorOf (r .seen) .status)) (near-real (G .control .slots) (anchorOf (r .seen)) (h .seen)
         (λ z. not-both (eq-eqb _ _ (h .seen .single z)) (unstable (anchorOf (r .seen) .status) _ (y .status)))
-        (eqb (sideNamed (anchorOf (r .seen) .status)) 1))
+        (eqb (statusSide (anchorOf (r .seen) .status)) 1))
 
     row11 : Says 11
     unfolding recOf row sideOf

@@ -1,16 +1,12 @@
 -- A place suits the kind of its record and the way of the queue.
-use mathlib.Core.Bool.{Bool, cond, false, true}
-use mathlib.Core.Logic.{_≢_}
-use mathlib.Core.Path.{_≡_, refl}
+use mathlib.Core.{Bool.{Bool, cond, false, true}, Logic._≢_, Path.{_≡_, refl}}
 use Prim.Native.Nat.{_≤_, ℕ}
 use native.Mathlib.Omega.{arith}
 use lib.Dec.{eqb}
 use borrow.Author.Tests.{eqb-false, eqb-true}
-use Rattle.model.proofs.tests.{ByPlace.by-place, Truth.not-both}
-use Rattle.model.proofs.machine.Book.{BookCall}
-use Rattle.model.proofs.machine.Machine.{Kind, Rec, Shared, pop, push}
+use Rattle.model.proofs.{tests.{ByPlace.by-place, Truth.not-both}, bridge.View.{kindOf, placeOf}}
+use Rattle.model.proofs.machine.{Book.BookCall, Machine.{Kind, Rec, Shared, pop, push}}
 use Rattle.model.proofs.invariant.{Fields.Extra, Owners.Owner, Tasks.Task}
-use Rattle.model.proofs.bridge.View.{kindOf, placeOf}
 
 pub record Suits (pooled : Bool) (k : Kind) (n : ℕ) : Type 0 where
   pub named : pooled ≡ false → n ≤ 11

@@ -1,25 +1,17 @@
 -- Facts as tests: an Anchor, a link word and a busy record within their meaning pass the tests of soundness.
-use mathlib.Core.Bool.{Bool, _&&_, _||_, cond, false, not, true}
-use mathlib.Core.Logic.{_≢_}
-use mathlib.Core.Path.{_∙_, _≡_, ap, refl, subst, sym}
+use mathlib.Core.{Bool.{Bool, _&&_, _||_, cond, false, not, true}, Logic._≢_, Path.{_∙_, _≡_, ap, refl, subst, sym}}
 use Prim.Native.Nat.{_≤_, ℕ}
 use native.Mathlib.Omega.{arith}
 use lib.Dec.{eqb, leb}
 use borrow.Author.Tests.{eq-eqb, eqb-false, eqb-true, le-leb, leb-true, ne-eqb}
-use Rattle.word.specs.Anchor.{anchorOf}
-use Rattle.word.specs.Link.{linkOf, spareOf}
-use Rattle.word.specs.declared.Anchor.{Anchor}
+use Rattle.word.specs.{Anchor.anchorOf, Link.{linkOf, spareOf}, declared.Anchor.Anchor}
 use Rattle.model.specs.Sound.{anchorSound, anchorTests, from1, linkSound, recordSound, recordTests}
 use Rattle.model.specs.declared.Call.{Call}
-use Rattle.model.proofs.tests.ByPlace.{by-place}
-use Rattle.model.proofs.tests.Rules.{_and_, passes}
+use Rattle.model.proofs.{tests.{ByPlace.by-place, Rules.{_and_, passes}}, machine.Book.BookCall}
 use Rattle.model.proofs.tests.Truth.{agree, and-of, and-true, beq-of, or-cases, or-first, or-second, split}
-use Rattle.model.proofs.machine.Book.{BookCall}
+use Rattle.model.proofs.{invariant.{Fields.Extra, Owners.Owner, Tasks.Task}, places.Owned.push-pop}
+use Rattle.model.proofs.bridge.{Facts.{AnchorFine, RecordFine}, View.{kindOf, placeOf, recOf, statusOf}}
 use Rattle.model.proofs.machine.Machine as M
-use Rattle.model.proofs.invariant.{Fields.Extra, Owners.Owner, Tasks.Task}
-use Rattle.model.proofs.places.Owned.{push-pop}
-use Rattle.model.proofs.bridge.Facts.{AnchorFine, RecordFine}
-use Rattle.model.proofs.bridge.View.{kindOf, placeOf, recOf, statusOf}
 
 pub anchor-sound : (slots : ℕ) (a : Anchor) → AnchorFine slots a → anchorSound slots a ≡ true
 unfolding anchorSound
@@ -56,8 +48,8 @@ unstable n d e = split (eqb n 0) (λ z. absurd (go n (eqb-true n 0 z) e)) (λ z.
     go n z e = let f : M.stable ≡ M.pushing d = subst (λ n. statusOf n ≡ M.pushing d) z e in let w : _≡_ {A = ℕ} 0 1 = cc in omega arith
 
 module _ (pooled : Bool) (slots : ℕ) (r : Call) (h : RecordFine pooled slots r) where
-  early : (p : ℕ) → leb 5 p && leb p 10 ≡ false → eqb (r .finishing) 1 ≡ false → Placed (r .finishing) (r .kind) (anchorOf (r .seen) .status) p
-  early p z e = (or-first _ (small-zero (r .finishing) (h .finishing) e), rw z)
+  unfinished : (p : ℕ) → leb 5 p && leb p 10 ≡ false → eqb (r .finishing) 1 ≡ false → Placed (r .finishing) (r .kind) (anchorOf (r .seen) .status) p
+  unfinished p z e = (or-first _ (small-zero (r .finishing) (h .finishing) e), rw z)
 
   late : (p : ℕ) → leb 5 p && leb p 10 ≡ true → (eqb (r .finishing) 1 ≡ true → kindOf (r .kind) ≡ M.push) → (d : Bool)
       → statusOf (anchorOf (r .seen) .status) ≡ M.pushing d
@@ -115,23 +107,23 @@ module _ (pooled : Bool) (slots : ℕ) (r : Call) (h : RecordFine pooled slots r
     placed : r .place ≢ 0 → Says (r .place)
     unfolding recOf
     placed b = by-place Says
-        (λ y x. (early 1 refl (y .0), own-trying (x .kept .1) (x .kept .2), refl))
-        (λ y x. (early 2 refl (y .0 .early), own-trying (x .kept .1) (x .kept .2), refl))
-        (λ y x. (early 3 refl (y .0 .early), own-trying (x .kept .1) (x .kept .2), refl))
-        (λ y x. (early 4 refl (y .0 .early), own-trying (x .kept .1) (x .kept .2), refl))
+        (λ y x. (unfinished 1 refl (y .0), own-trying (x .kept .1) (x .kept .2), refl))
+        (λ y x. (unfinished 2 refl (y .0 .unfinished), own-trying (x .kept .1) (x .kept .2), refl))
+        (λ y x. (unfinished 3 refl (y .0 .unfinished), own-trying (x .kept .1) (x .kept .2), refl))
+        (λ y x. (unfinished 4 refl (y .0 .unfinished), own-trying (x .kept .1) (x .kept .2), refl))
         (λ y x. (late 5 refl (x .kept .0) _ (y .status), own-trying (x .kept .1) (x .kept .2), refl))
         (λ y x. (late 6 refl (x .kept .0) _ (y .0 .status), own-trying (x .kept .1) (x .kept .2), refl))
         (λ y x. (late 7 refl (x .kept .0) _ (y .0 .status), own-trying (x .kept .1) (x .kept .2), refl))
         (λ y x. (late 8 refl (x .kept .0) _ (y .0 .status), own-trying (x .kept .1) (x .kept .2), refl))
         (λ y x. (late 9 refl (x .kept .0) _ (y .0 .status), own-trying (x .kept .1) (x .kept .2), refl))
         (λ y x. (late 10 refl (x .kept .0) _ (y .0 .status), own-trying (x .kept .1) (x .kept .2), refl))
-        (λ y x. (early 11 refl (x .kept .1), own-trying (λ e. absurd (push-pop (sym e ∙ x .kept .0))) (λ e. x .kept .3), refl))
-        (λ y x. (early 12 refl (y .1 .early), own-drawing (x .kept), refl))
-        (λ y x. (early 13 refl (y .1 .early), own-drawing (x .kept), topped (y .2 .0)))
-        (λ y x. (early 14 refl (y .1 .early), own-drawing (x .kept), topped (y .2 .0)))
-        (λ y x. (early 15 refl (x .kept .1), own-giving (x .kept .2), refl))
-        (λ y x. (early 16 refl (x .kept .1), own-giving (x .kept .2), refl))
-        (λ y x. (early 17 refl (x .kept .1), own-giving (x .kept .2), refl))
+        (λ y x. (unfinished 11 refl (x .kept .1), own-trying (λ e. absurd (push-pop (sym e ∙ x .kept .0))) (λ e. x .kept .3), refl))
+        (λ y x. (unfinished 12 refl (y .1 .unfinished), own-drawing (x .kept), refl))
+        (λ y x. (unfinished 13 refl (y .1 .unfinished), own-drawing (x .kept), topped (y .2 .0)))
+        (λ y x. (unfinished 14 refl (y .1 .unfinished), own-drawing (x .kept), topped (y .2 .0)))
+        (λ y x. (unfinished 15 refl (x .kept .1), own-giving (x .kept .2), refl))
+        (λ y x. (unfinished 16 refl (x .kept .1), own-giving (x .kept .2), refl))
+        (λ y x. (unfinished 17 refl (x .kept .1), own-giving (x .kept .2), refl))
         (r .place) b (h .place)
 
     pub record-sound : r .place ≢ 0 → Task (placeOf (r .place)) s o t (recOf r) c → Extra (placeOf (r .place)) (recOf r)

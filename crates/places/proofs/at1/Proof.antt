@@ -1,7 +1,6 @@
 -- `step1`, with what the calls answer put in.
 use borrow.Author.Needs.{needs}
-use Rattle.places.proofs.Anchors.{step1}
-use Rattle.places.proofs.at1.Statement.{statement}
+use Rattle.places.proofs.{Anchors.step1, at1.Statement.statement}
 use Rattle.places.proofs.at1.Tie as tie
 
 returns : tie.Need-returns

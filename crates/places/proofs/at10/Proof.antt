@@ -1,11 +1,9 @@
 -- `step10`, with the new word put in; a change fails, is denied or is made.
 use mathlib.Core.Path.{refl, sym, _∙_}
-use borrow.Author.Tests.{not-true, not-false}
 use borrow.Author.Needs.{needs}
 use Rattle.model.specs.Route.{route}
 use Rattle.decide.specs.Ending.{settled, noEntry, failing}
-use Rattle.places.proofs.Anchors.{Tries, fails, denies, makes, step10}
-use Rattle.places.proofs.at10.Statement.{statement}
+use Rattle.places.proofs.{Anchors.{Tries, fails, denies, makes, step10}, at10.Statement.statement}
 use Rattle.places.proofs.at10.Tie as tie
 
 module _ (b : tie.After-new10) where
@@ -27,13 +25,13 @@ returns-2 : tie.Need-returns-2
 returns-2 c =
     let m = c .before .before in
     rw (c .refused .ensures)
-    (denies (tried (m .before)) (m .before .before .if1 .left) (sym (m .may-change .ensures) ∙ not-true _ (c .before .if2 .taken)))
+    (denies (tried (m .before)) (m .before .before .if1 .left) (sym (m .change-refused .ensures) ∙ c .before .if2 .taken))
 
 returns-3 : tie.Need-returns-3
 returns-3 c =
     let m = c .before .before .before .before in
     rw (c .settles2 .ensures, c .before .next2 .ensures, c .before .before .with-anchor .ensures)
-    (makes (tried (m .before)) (m .before .before .if1 .left) (sym (m .may-change .ensures) ∙ not-false _ (c .before .before .before .if2 .left)))
+    (makes (tried (m .before)) (m .before .before .if1 .left) (sym (m .change-refused .ensures) ∙ c .before .before .before .if2 .left))
 
 pub at10-spec : {M : Type 1} → statement M
 at10-spec =

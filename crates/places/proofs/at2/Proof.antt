@@ -1,7 +1,6 @@
 -- Anchor is as read, and the change is `change2`; or it is not, and the change has failed.
 use borrow.Author.Needs.{needs}
-use Rattle.places.proofs.Anchors.{failed2}
-use Rattle.places.proofs.at2.Statement.{statement}
+use Rattle.places.proofs.{Anchors.failed2, at2.Statement.statement}
 use Rattle.places.proofs.at2.Tie as tie
 
 returns : tie.Need-returns

@@ -1,11 +1,8 @@
 -- `push-made` and `pop-made`, with what the calls answer put in.
 use mathlib.Core.Path.{_≡_, ap, sym, _∙_}
-use borrow.Author.Tests.{eq-eqb, ne-eqb}
-use borrow.Author.Needs.{needs}
-use Rattle.decide.specs.declared.touched.LinkWord.{LinkWord}
-use Rattle.decide.specs.Decided.{link3Of, link3}
-use Rattle.places.proofs.OnRows.{push-made, pop-made}
-use Rattle.places.proofs.at3.Statement.{statement}
+use borrow.Author.{Tests.{eq-eqb, ne-eqb}, Needs.needs}
+use Rattle.decide.specs.{declared.touched.LinkWord.LinkWord, Decided.{link3Of, link3}}
+use Rattle.places.proofs.{OnRows.{push-made, pop-made}, at3.Statement.statement}
 use Rattle.places.proofs.at3.Tie as tie
 
 -- Anchor as read, the beginning, and the link word touched.

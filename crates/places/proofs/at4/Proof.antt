@@ -1,7 +1,6 @@
 -- Anchor is as read, and the change is `change4`; or it is not, and the change has failed.
 use borrow.Author.Needs.{needs}
-use Rattle.places.proofs.Anchors.{failed4}
-use Rattle.places.proofs.at4.Statement.{statement}
+use Rattle.places.proofs.{Anchors.failed4, at4.Statement.statement}
 use Rattle.places.proofs.at4.Tie as tie
 
 returns : tie.Need-returns

@@ -1,6 +1,5 @@
 -- `step5`, with what the calls answer put in.
-use Rattle.places.proofs.OnRows.{step5}
-use Rattle.places.proofs.at5.Statement.{statement}
+use Rattle.places.proofs.{OnRows.step5, at5.Statement.statement}
 use Rattle.places.proofs.at5.Tie as tie
 
 returns : tie.Need-returns

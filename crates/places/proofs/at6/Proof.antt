@@ -1,7 +1,6 @@
 -- `step6`, with what the calls answer put in.
 use borrow.Author.Needs.{needs}
-use Rattle.places.proofs.Anchors.{step6}
-use Rattle.places.proofs.at6.Statement.{statement}
+use Rattle.places.proofs.{Anchors.step6, at6.Statement.statement}
 use Rattle.places.proofs.at6.Tie as tie
 
 returns : tie.Need-returns

@@ -1,6 +1,5 @@
 -- `step7`, with what the calls answer put in.
-use Rattle.places.proofs.OnRows.{step7}
-use Rattle.places.proofs.at7.Statement.{statement}
+use Rattle.places.proofs.{OnRows.step7, at7.Statement.statement}
 use Rattle.places.proofs.at7.Tie as tie
 
 returns : tie.Need-returns

@@ -1,7 +1,6 @@
 -- `step8`, with what the calls answer put in.
 use borrow.Author.Needs.{needs}
-use Rattle.places.proofs.Anchors.{step8}
-use Rattle.places.proofs.at8.Statement.{statement}
+use Rattle.places.proofs.{Anchors.step8, at8.Statement.statement}
 use Rattle.places.proofs.at8.Tie as tie
 
 returns : tie.Need-returns

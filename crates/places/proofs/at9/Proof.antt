@@ -1,8 +1,7 @@
 -- `help-made`, with what the calls answer put in.
 use mathlib.Core.Path.{sym, _∙_}
 use borrow.Author.Needs.{needs}
-use Rattle.places.proofs.OnRows.{help-made}
-use Rattle.places.proofs.at9.Statement.{statement}
+use Rattle.places.proofs.{OnRows.help-made, at9.Statement.statement}
 use Rattle.places.proofs.at9.Tie as tie
 
 -- The word found, which one it is, and the beginning.

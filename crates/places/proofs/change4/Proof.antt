@@ -1,11 +1,9 @@
 -- `step4`, with the new word put in; the change is denied or made.
 use mathlib.Core.Path.{sym, _∙_}
-use borrow.Author.Tests.{not-true, not-false}
 use borrow.Author.Needs.{needs}
 use Rattle.model.specs.Route.{route}
 use Rattle.decide.specs.Ending.{remembered}
-use Rattle.places.proofs.Anchors.{Tries, found, denies, makes, step4}
-use Rattle.places.proofs.change4.Statement.{statement}
+use Rattle.places.proofs.{Anchors.{Tries, found, denies, makes, step4}, change4.Statement.statement}
 use Rattle.places.proofs.change4.Tie as tie
 
 module _ (b : tie.After-new4) where
@@ -20,14 +18,14 @@ module _ (b : tie.After-new4) where
 returns : tie.Need-returns
 returns c same =
     let m = c .before .before in
-    rw (c .refused .ensures) (denies (tried (m .before)) same (sym (m .may-change .ensures) ∙ not-true _ (c .before .if1 .taken)))
+    rw (c .refused .ensures) (denies (tried (m .before)) same (sym (m .change-refused .ensures) ∙ c .before .if1 .taken))
 
 returns-2 : tie.Need-returns-2
 returns-2 c same =
     let w = c .before .before .before in
     let m = w .before .before in
     rw (c .settles .ensures, c .before .next .ensures, c .before .before .remembers .ensures, w .with-anchor .ensures)
-    (makes (tried (m .before)) same (sym (m .may-change .ensures) ∙ not-false _ (w .before .if1 .left)))
+    (makes (tried (m .before)) same (sym (m .change-refused .ensures) ∙ w .before .if1 .left))
 
 pub change4-spec : {M : Type 1} → statement M
 change4-spec =

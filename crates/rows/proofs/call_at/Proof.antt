@@ -4,9 +4,8 @@ use native.Mathlib.Omega.{arith}
 use lib.ListN.{List·getD-eq-default}
 use Rattle.model.specs.declared.Record.{Record}
 use Rattle.rows.specs.Rows.{callOf, recordOf, recordsOf}
-use Rattle.rows.proofs.Rows.{length-records, record-read}
+use Rattle.rows.proofs.{Rows.{length-records, record-read}, call_at.Statement.statement}
 use borrow.Author.Needs.{needs}
-use Rattle.rows.proofs.call_at.Statement.{statement}
 use Rattle.rows.proofs.call_at.Tie as tie
 
 returns : tie.Need-returns

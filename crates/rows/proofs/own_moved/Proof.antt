@@ -3,9 +3,8 @@ use mathlib.Core.Path.{ap}
 use Prim.Native.Nat.{ℕ}
 use Rattle.engine.specs.Stored.{ownMoved}
 use Rattle.rows.specs.Rows.{callOf, recordOf, upperOf}
-use Rattle.rows.proofs.Rows.{counting, labelled}
+use Rattle.rows.proofs.{Rows.{counting, labelled}, own_moved.Statement.statement}
 use borrow.Author.Needs.{needs}
-use Rattle.rows.proofs.own_moved.Statement.{statement}
 use Rattle.rows.proofs.own_moved.Tie as tie
 
 returns : tie.Need-returns

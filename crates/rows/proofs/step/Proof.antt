@@ -2,9 +2,8 @@
 use mathlib.Core.Path.{_≡_, sym, _∙_}
 use Prim.Native.Nat.{_<_}
 use lib.ListN.{length}
-use Rattle.rows.proofs.OneStep.{fault, asked, refused, there, stepped}
+use Rattle.rows.proofs.{OneStep.{fault, asked, refused, there, stepped}, step.Statement.statement}
 use borrow.Author.Needs.{needs}
-use Rattle.rows.proofs.step.Statement.{statement}
 use Rattle.rows.proofs.step.Tie as tie
 
 -- The answer of `admit_step`, in the model's terms.

@@ -1,15 +1,12 @@
 -- The row of the same record has no upper half; past the rows there is none.
-use mathlib.Core.Path.{refl, sym, ap, _∙_}
+use mathlib.Core.{Path.{refl, sym, ap, _∙_}, List.[]}
 use native.Mathlib.Omega.{arith}
-use mathlib.Core.List.{[]}
-use lib.ListN.{getD, set}
-use lib.Seq.{set-out, set-getD}
-use Rattle.model.specs.Tables.{unused}
-use Rattle.model.specs.declared.Call.{Call}
+use lib.{ListN.{getD, set}, Seq.{set-out, set-getD}}
+use Rattle.model.specs.{Tables.unused, declared.Call.Call}
 use Rattle.rows.specs.Rows.{recordOf, recordsOf, uppersOf}
 use Rattle.rows.proofs.Rows.{length-uppers, record-put, record-read, upper-put, counting}
-use borrow.Author.Needs.{needs}
 use Rattle.rows.proofs.trim.Statement.{statement}
+use borrow.Author.Needs.{needs}
 use Rattle.rows.proofs.trim.Tie as tie
 
 returns : tie.Need-returns

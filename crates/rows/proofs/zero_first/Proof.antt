@@ -1,16 +1,13 @@
 -- The rows below i are zero, the others as before.
-use mathlib.Core.Path.{_≡_, refl, ap, _∙_}
-use mathlib.Core.List.{List}
+use mathlib.Core.{Path.{_≡_, refl, ap, _∙_}, List.List}
 use Prim.Native.Nat.{ℕ, _-_, _<_, _≤_}
 use native.Mathlib.Omega.{arith}
 use lib.ListN.{length, set, length-set}
-use Rattle.model.specs.declared.Record.{Record}
-use Rattle.model.specs.Tables.{unused}
-use Rattle.model.specs.Lists.{zeroed}
+use Rattle.model.specs.{declared.Record.Record, Tables.unused, Lists.zeroed}
 use Rattle.rows.specs.Rows.{callOf, recordOf, recordsOf, upperOf, uppersOf}
 use Rattle.rows.proofs.Rows.{length-records, length-uppers, record-put, upper-put, one-more}
-use borrow.Author.Needs.{needs}
 use Rattle.rows.proofs.zero_first.Statement.{statement}
+use borrow.Author.Needs.{needs}
 use Rattle.rows.proofs.zero_first.Tie as tie
 
 abbrev Inv-loop : tie.InvT-loop

@@ -1,10 +1,8 @@
 -- By tag; bytes from a position on are bytes of the rest.
-use borrow.Author.Tests.{eq-eqb, ne-eqb}
+use borrow.Author.{Tests.{eq-eqb, ne-eqb}, Needs.needs}
 use lib.Seq.{getD-drop}
-use Rattle.runfile.proofs.Bytes.{byte-here, two-drop, four-drop}
+use Rattle.runfile.proofs.{Bytes.{byte-here, two-drop, four-drop}, content.Statement.statement}
 use Rattle.runfile.specs.Field.{contentOf}
-use borrow.Author.Needs.{needs}
-use Rattle.runfile.proofs.content.Statement.{statement}
 use Rattle.runfile.proofs.content.Tie as tie
 
 returns : tie.Need-returns

@@ -1,8 +1,6 @@
 -- What the search found, and its length in word 0.
-use borrow.Author.Needs.{needs}
-use borrow.Author.Tests.{not-false}
-use Rattle.schedule.proofs.Handing.{no-more, next-found}
-use Rattle.schedule.proofs.hand_out.Statement.{statement}
+use borrow.Author.{Needs.needs, Tests.not-false}
+use Rattle.schedule.proofs.{Handing.{no-more, next-found}, hand_out.Statement.statement}
 use Rattle.schedule.proofs.hand_out.Tie as tie
 
 returns : tie.Need-returns

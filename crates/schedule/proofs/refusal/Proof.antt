@@ -1,9 +1,7 @@
 -- By control and lengths, then by the walk and the tests on the two calls.
-use Rattle.model.specs.Tables.{Tables, tablesOf}
-use Rattle.model.specs.Sound.{rowsFit}
+use Rattle.model.specs.{Tables.{Tables, tablesOf}, Sound.rowsFit}
 use Rattle.sound.specs.Lengths.{lengthsFit}
-use Rattle.schedule.proofs.Handing.{refused-before, refused-after}
-use Rattle.schedule.proofs.refusal.Statement.{statement}
+use Rattle.schedule.proofs.{Handing.{refused-before, refused-after}, refusal.Statement.statement}
 use Rattle.schedule.proofs.refusal.Tie as tie
 
 -- The arguments, in the model's terms.

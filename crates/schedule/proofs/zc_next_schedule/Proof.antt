@@ -1,15 +1,10 @@
 -- Refused, or handed out: control and records as the rows are.
-use mathlib.Core.Path.{_≡_, sym, ap, _∙_}
-use mathlib.Core.List.{List}
+use mathlib.Core.{Path.{_≡_, sym, ap, _∙_}, List.List}
 use borrow.Author.Needs.{needs}
-use Rattle.model.specs.declared.Control.{Control}
-use Rattle.model.specs.declared.Record.{Record}
-use Rattle.model.specs.Tables.{Tables, Queue, tablesOf}
-use Rattle.rows.specs.Rows.{controlOf, recordOf, recordsOf}
-use Rattle.rows.proofs.Rows.{length-records}
+use Rattle.model.specs.{declared.{Control.Control, Record.Record}, Tables.{Tables, Queue, tablesOf}}
+use Rattle.rows.{specs.Rows.{controlOf, recordOf, recordsOf}, proofs.Rows.length-records}
 use Rattle.schedule_model.specs.Next.{scheduleRefusal}
-use Rattle.schedule.proofs.Handing.{turned-away, accepted}
-use Rattle.schedule.proofs.zc_next_schedule.Statement.{statement}
+use Rattle.schedule.proofs.{Handing.{turned-away, accepted}, zc_next_schedule.Statement.statement}
 use Rattle.schedule.proofs.zc_next_schedule.Tie as tie
 
 module _ (told : tie.After-refusal) where

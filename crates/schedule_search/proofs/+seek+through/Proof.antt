@@ -3,16 +3,15 @@ mod Falling
 mod SeekNeeds
 mod ThroughNeeds
 use borrow.Author.Needs.{needs}
-use Rattle.schedule_search.proofs.+seek+through.Proof.Falling.{μ-seek, μ-through, seek-at, through-at, seek-callees, through-callees}
-use Rattle.schedule_search.proofs.+seek+through.Proof.Falling.{Inv-loop, μ-loop}
+use Rattle.schedule_search.proofs.+seek+through.Proof.Falling.{μ-seek, μ-through, seek-at, through-at, Inv-loop}
+use Rattle.schedule_search.proofs.+seek+through.Proof.Falling.{seek-callees, through-callees, μ-loop}
+use Rattle.schedule_search.proofs.+seek+through.{statement, Tie.close}
 use Rattle.schedule_search.proofs.+seek+through.Proof.SeekNeeds as by-seek
 use Rattle.schedule_search.proofs.+seek+through.Proof.ThroughNeeds as by-through
 use Rattle.schedule_search.proofs.seek.Reads as seek
 use Rattle.schedule_search.proofs.through.Reads as through
 use Rattle.schedule_search.proofs.+seek+through.Lts-seek as seek-lts
 use Rattle.schedule_search.proofs.+seek+through.Lts-through as through-lts
-use Rattle.schedule_search.proofs.+seek+through.{statement}
-use Rattle.schedule_search.proofs.+seek+through.Tie.{close}
 
 pub +seek+through-spec : {M : Type 1} → statement M
 +seek+through-spec =

@@ -1,26 +1,21 @@
 -- By the tests.
-use mathlib.Core.Path.{_≡_, refl, sym, ap, _∙_}
-use mathlib.Core.Bool.{Bool, true, false, _&&_, _||_, not, cond}
-use mathlib.Core.List.{List}
+use mathlib.Core.{Path.{_≡_, refl, sym, ap, _∙_}, Bool.{Bool, true, false, _&&_, _||_, not, cond}, List.List}
 use Prim.Native.Nat.{ℕ, _-_}
-use lib.Dec.{eqb, ltb}
-use lib.ListN.{getD}
-use borrow.Author.Needs.{needs}
-use borrow.Author.Tests.{eq-eqb, ne-eqb, lt-ltb, le-ltb}
-use Rattle.model.specs.declared.Call.{Call}
-use Rattle.model.specs.Tables.{Tables, unused}
+use lib.{Dec.{eqb, ltb}, ListN.getD}
+use borrow.Author.{Needs.needs, Tests.{eq-eqb, ne-eqb, lt-ltb, le-ltb}}
+use Rattle.model.specs.{declared.Call.Call, Tables.{Tables, unused}}
 use Rattle.rows.specs.Rows.{recordsOf}
 use Rattle.schedule_model.specs.Search.{bound, least}
 use Rattle.schedule_search.specs.Sought.{choice}
 use Rattle.schedule_search.proofs.choose.Statement.{statement}
 use Rattle.schedule_search.proofs.choose.Tie as tie
 
--- idle: the task is; b: the list binds; early: the task comes too early; same: it stands next in the list. r: its call.
-told : (q : Tables) (pair : List (List ℕ)) (ws : List ℕ) (len left : ℕ) (free : Bool) (t : ℕ) (idle b early same : Bool) (c : ℕ) (r : Call)
-    → r ≡ getD (recordsOf pair) t unused .call → eqb (r .place) 0 ≡ idle → bound len left free ≡ b → ltb t (least ws left) ≡ early
-    → eqb t (least ws left) ≡ same → c ≡ cond (not (not idle) || (b && early)) 0 (cond (not b || not same) 2 1)
+-- idle: the task is; b: the list binds; tooSoon: the task comes too soon; same: it stands next in the list. r: its call.
+told : (q : Tables) (pair : List (List ℕ)) (ws : List ℕ) (len left : ℕ) (free : Bool) (t : ℕ) (idle b tooSoon same : Bool) (c : ℕ) (r : Call)
+    → r ≡ getD (recordsOf pair) t unused .call → eqb (r .place) 0 ≡ idle → bound len left free ≡ b → ltb t (least ws left) ≡ tooSoon
+    → eqb t (least ws left) ≡ same → c ≡ cond (not (not idle) || (b && tooSoon)) 0 (cond (not b || not same) 2 1)
     → c ≡ choice ws len left free (record { tables = q; records = recordsOf pair }) t
-told q pair ws len left free t idle b early same c r whose i₁ i₂ i₃ i₄ e =
+told q pair ws len left free t idle b tooSoon same c r whose i₁ i₂ i₃ i₄ e =
     let place = ap (λ (x : Call). eqb (x .place) 0) (sym whose) ∙ i₁ in
     e ∙ sym (λ i. cond (not (not (place i)) || (i₂ i && i₃ i)) 0 (cond (not (i₂ i) || not (i₄ i)) 2 1))
 
@@ -63,14 +58,14 @@ module _ (read : tie.After-word-at) (q : Tables) where
   abbrev a : tie.Start
   a = call .before .before .before
 
-  by-list : (early same : Bool) (c : ℕ) → ltb (a .args .t) (read .word-at .result) ≡ early → eqb (a .args .t) (read .word-at .result) ≡ same
-      → c ≡ cond early 0 (cond (not same) 2 1)
+  by-list : (tooSoon same : Bool) (c : ℕ) → ltb (a .args .t) (read .word-at .result) ≡ tooSoon → eqb (a .args .t) (read .word-at .result) ≡ same
+      → c ≡ cond tooSoon 0 (cond (not same) 2 1)
       → (let s = a .args in
       c ≡ choice (s .given .now) (s .len) (s .left) (s .free) (record { tables = q; records = recordsOf (s .pair .now) }) (s .t))
-  by-list early same c e₁ e₂ e =
+  by-list tooSoon same c e₁ e₂ e =
       let s = a .args in
       let next = sym (read .word-at .ensures) in
-      told q (s .pair .now) (s .given .now) (s .len) (s .left) (s .free) (s .t) false true early same c _ (call .call-at .ensures)
+      told q (s .pair .now) (s .given .now) (s .len) (s .left) (s .free) (s .t) false true tooSoon same c _ (call .call-at .ensures)
       (ne-eqb _ _ (busy .if1 .left)) (binds (s .len) (s .left) (s .free) true (read .before .before .if2 .left) (lt-ltb _ _ (read .before .if3 .left)))
       (ap (λ (x : ℕ). ltb (s .t) x) next ∙ e₁) (ap (λ (x : ℕ). eqb (s .t) x) next ∙ e₂) e
 

@@ -1,13 +1,9 @@
 -- By the tests.
-use mathlib.Core.Path.{_≡_, refl, sym, ap, _∙_}
-use mathlib.Core.Bool.{Bool, true, false, _||_, not}
-use mathlib.Core.List.{List}
+use mathlib.Core.{Path.{_≡_, refl, sym, ap, _∙_}, Bool.{Bool, true, false, _||_, not}, List.List}
 use Prim.Native.Nat.{ℕ}
-use lib.Dec.{eqb}
-use lib.ListN.{getD}
+use lib.{Dec.eqb, ListN.getD}
 use borrow.Author.Tests.{eq-eqb, ne-eqb}
-use Rattle.model.specs.declared.Call.{Call}
-use Rattle.model.specs.Tables.{Tables, Queue, unused}
+use Rattle.model.specs.{declared.Call.Call, Tables.{Tables, Queue, unused}}
 use Rattle.rows.specs.Rows.{recordsOf}
 use Rattle.schedule_model.specs.Schedules.{answeredBoth, wasCut, bothAnswered}
 use Rattle.schedule_search.specs.Sought.{goesOn, endsHere}

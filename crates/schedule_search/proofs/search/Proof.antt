@@ -1,8 +1,7 @@
 -- The whole search, in rows of its own.
 use native.Mathlib.Omega.{arith}
 use borrow.Author.Needs.{needs}
-use Rattle.schedule_search.proofs.Seeking.{by-value}
-use Rattle.schedule_search.proofs.search.Statement.{statement}
+use Rattle.schedule_search.proofs.{Seeking.by-value, search.Statement.statement}
 use Rattle.schedule_search.proofs.search.Tie as tie
 
 returns : tie.Need-returns

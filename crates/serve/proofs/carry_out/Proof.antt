@@ -4,10 +4,8 @@ use Prim.Native.Nat.{_-_, _*_, _<_, _≤_}
 use native.Mathlib.Omega.{arith}
 use borrow.Author.Needs.{needs}
 use lib.ListN.{length}
-use Rattle.serve.specs.Requests.{requestsFrom}
-use Rattle.serve.specs.Serving.{stateIn, served}
-use Rattle.serve.proofs.Served.{asked, served-all, served-none, served-next}
-use Rattle.serve.proofs.carry_out.Statement.{statement}
+use Rattle.serve.specs.{Requests.requestsFrom, Serving.{stateIn, served}}
+use Rattle.serve.proofs.{Served.{requestIn, served-all, served-none, served-next}, carry_out.Statement.statement}
 use Rattle.serve.proofs.carry_out.Tie as tie
 
 abbrev Inv-loop : tie.InvT-loop
@@ -56,7 +54,7 @@ loop-again c =
       inv .1,
       inv .2,
       inv .3,
-      served-next _ _ _ _ _ _ _ less (ap asked (request .request-at .ensures)) (done .take-turn .ensures) (wrote .write-reply .ensures) ∙ inv .4,
+      served-next _ _ _ _ _ _ _ less (ap requestIn (request .request-at .ensures)) (done .take-turn .ensures) (wrote .write-reply .ensures) ∙ inv .4,
       done .take-turn .kept .1 .0 ∙ inv .5,
       wrote .write-reply .kept .0 ∙ inv .6,
       kept .0 ∙ inv .7,

@@ -3,8 +3,7 @@ use mathlib.Core.Path.{sym, subst, _∙_}
 use Prim.Native.Nat.{ℕ, _*_, _≤_}
 use borrow.Author.Needs.{needs}
 use lib.ListN.{length}
-use Rattle.serve.proofs.Opening.{serves, count-fits}
-use Rattle.serve.proofs.zc_serve.Statement.{statement}
+use Rattle.serve.proofs.{Opening.{serves, count-fits}, zc_serve.Statement.statement}
 use Rattle.serve.proofs.zc_serve.Tie as tie
 
 -- Back to the opening, past what it leaves of each table; and to the start.

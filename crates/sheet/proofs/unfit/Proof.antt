@@ -1,8 +1,6 @@
 use mathlib.Core.Path.{sym, _∙_}
-use borrow.Author.Tests.{not-true, not-false}
-use Rattle.sheet.proofs.Judged.{unfit-34, unfit-46, unfit-12, unfit-0}
-use borrow.Author.Needs.{needs}
-use Rattle.sheet.proofs.unfit.Statement.{statement}
+use borrow.Author.{Tests.{not-true, not-false}, Needs.needs}
+use Rattle.sheet.proofs.{Judged.{unfit-34, unfit-46, unfit-12, unfit-0}, unfit.Statement.statement}
 use Rattle.sheet.proofs.unfit.Tie as tie
 
 returns : tie.Need-returns

@@ -6,8 +6,7 @@ use borrow.Author.Needs.{needs}
 use Rattle.rows.specs.Rows.{controlOf}
 use Rattle.shelf_model.specs.Shelves.{unfilled}
 use Rattle.shelf.specs.Lent.{controlsOf}
-use Rattle.shelf.proofs.Controls.{control-read, length-controls}
-use Rattle.shelf.proofs.control_at.Statement.{statement}
+use Rattle.shelf.proofs.{Controls.{control-read, length-controls}, control_at.Statement.statement}
 use Rattle.shelf.proofs.control_at.Tie as tie
 
 returns : tie.Need-returns

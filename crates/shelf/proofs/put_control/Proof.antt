@@ -4,8 +4,7 @@ use native.Mathlib.Omega.{arith}
 use lib.Seq.{set-out}
 use borrow.Author.Needs.{needs}
 use Rattle.shelf.specs.Lent.{controlsOf}
-use Rattle.shelf.proofs.Controls.{control-put, length-controls}
-use Rattle.shelf.proofs.put_control.Statement.{statement}
+use Rattle.shelf.proofs.{Controls.{control-put, length-controls}, put_control.Statement.statement}
 use Rattle.shelf.proofs.put_control.Tie as tie
 
 returns : tie.Need-returns

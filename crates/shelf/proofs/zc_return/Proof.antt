@@ -1,8 +1,7 @@
 -- Control, records and tables put back from the shelf, unless a test forbids it.
 use mathlib.Core.Path.{_∙_}
 use borrow.Author.Needs.{needs}
-use Rattle.shelf.proofs.Changing.{return-low, returning-lent, returning-refused}
-use Rattle.shelf.proofs.zc_return.Statement.{statement}
+use Rattle.shelf.proofs.{Changing.{return-low, returning-lent, returning-refused}, zc_return.Statement.statement}
 use Rattle.shelf.proofs.zc_return.Tie as tie
 
 returns : tie.Need-returns

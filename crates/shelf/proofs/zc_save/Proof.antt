@@ -1,7 +1,6 @@
 -- Control, records and tables put on the shelf, unless a test forbids it.
 use borrow.Author.Needs.{needs}
-use Rattle.shelf.proofs.Changing.{save-low, saving-lent, saving-refused}
-use Rattle.shelf.proofs.zc_save.Statement.{statement}
+use Rattle.shelf.proofs.{Changing.{save-low, saving-lent, saving-refused}, zc_save.Statement.statement}
 use Rattle.shelf.proofs.zc_save.Tie as tie
 
 returns : tie.Need-returns

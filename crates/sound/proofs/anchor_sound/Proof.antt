@@ -1,11 +1,9 @@
 -- Equal ends; of different ones the first that is no slot, or none.
-use mathlib.Core.Path.{_≡_, sym, ap, _∙_}
-use mathlib.Core.Bool.{Bool}
+use mathlib.Core.{Path.{_≡_, sym, ap, _∙_}, Bool.Bool}
 use borrow.Author.Tests.{not-true, not-false}
 use Rattle.word.specs.Anchor.{anchorOf}
 use Rattle.model.specs.Sound.{anchorSound}
-use Rattle.sound.proofs.Ends.{equal, left-null, right-null, both-slots}
-use Rattle.sound.proofs.anchor_sound.Statement.{statement}
+use Rattle.sound.proofs.{Ends.{equal, left-null, right-null, both-slots}, anchor_sound.Statement.statement}
 use Rattle.sound.proofs.anchor_sound.Tie as tie
 
 -- What is shown of the Anchor unpacked is shown of the word.

@@ -1,17 +1,16 @@
 -- The first test that fails, or all of a push or of a pop.
 use mathlib.Core.Path.{sym, _∙_}
 use borrow.Author.Tests.{eq-eqb, ne-eqb, not-true, not-false}
-use Rattle.sound.specs.Records.{earlyCall}
-use Rattle.sound.proofs.Early.{pops}
-use Rattle.sound.proofs.deque_call.Statement.{statement}
+use Rattle.sound.specs.Records.{dequeCall}
+use Rattle.sound.proofs.{DequePlaces.pops, deque_call.Statement.statement}
 use Rattle.sound.proofs.deque_call.Tie as tie
 
 returns : tie.Need-returns
-unfolding earlyCall
+unfolding dequeCall
 returns c = simp (eq-eqb _ _ (c .before .before .if1 .taken), sym (c .before .from1 .ensures) ∙ not-true _ (c .if2 .taken))
 
 returns-2 : tie.Need-returns-2
-unfolding earlyCall
+unfolding dequeCall
 returns-2 c =
     let own = c .before .before in
     simp (
@@ -21,7 +20,7 @@ returns-2 c =
     )
 
 returns-3 : tie.Need-returns-3
-unfolding earlyCall
+unfolding dequeCall
 returns-3 c =
     let finishing = c .before .before in
     let own = finishing .before .before in
@@ -32,7 +31,7 @@ returns-3 c =
     )
 
 returns-4 : tie.Need-returns-4
-unfolding earlyCall
+unfolding dequeCall
 returns-4 c = simp (ne-eqb _ _ (c .before .before .if1 .left), ne-eqb _ _ (c .if4 .taken))
 
 returns-5 : tie.Need-returns-5

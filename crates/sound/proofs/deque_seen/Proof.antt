@@ -1,24 +1,23 @@
 -- The left end no slot, no status; from place 5 on, equal ends, or different ones.
-use mathlib.Core.Path.{_≡_, sym, ap, _∙_}
-use mathlib.Core.Bool.{Bool, true}
+use mathlib.Core.{Path.{_≡_, sym, ap, _∙_}, Bool.{Bool, true}}
 use borrow.Author.Tests.{not-true, not-false}
 use Rattle.word.specs.Anchor.{anchorOf}
 use Rattle.model.specs.Sound.{from1}
-use Rattle.sound.specs.Records.{earlySeen}
-use Rattle.sound.proofs.Seen.{null-late, null-soon, no-status, late, equal-soon, apart-soon}
+use Rattle.sound.specs.Records.{dequeSeen}
+use Rattle.sound.proofs.Seen.{null-unstable, null-soon, no-status, late, equal-soon, apart-soon}
 use Rattle.sound.proofs.deque_seen.Statement.{statement}
 use Rattle.sound.proofs.deque_seen.Tie as tie
 
 -- What is shown of the Anchor unpacked is shown of the word.
 module _ (u : tie.After-unpack) (b : Bool) where
   of-word : (let r = u .before .args .r in
-      b ≡ earlySeen (u .before .args .slots) (r .place) (u .unpack .result) → b ≡ earlySeen (u .before .args .slots) (r .place) (anchorOf (r .seen)))
-  of-word h = h ∙ ap (earlySeen (u .before .args .slots) (u .before .args .r .place)) (u .unpack .ensures)
+      b ≡ dequeSeen (u .before .args .slots) (r .place) (u .unpack .result) → b ≡ dequeSeen (u .before .args .slots) (r .place) (anchorOf (r .seen)))
+  of-word h = h ∙ ap (dequeSeen (u .before .args .slots) (u .before .args .r .place)) (u .unpack .ensures)
 
 returns : tie.Need-returns
 returns c =
     let left = c .before .before in
-    of-word (left .before .before) _ (null-late _ _ _ (sym (left .before .from1 .ensures) ∙ not-true _ (left .if1 .taken)) (c .if2 .taken))
+    of-word (left .before .before) _ (null-unstable _ _ _ (sym (left .before .from1 .ensures) ∙ not-true _ (left .if1 .taken)) (c .if2 .taken))
 
 returns-2 : tie.Need-returns-2
 returns-2 c =

@@ -1,23 +1,23 @@
 -- The first test that fails, or all.
 use mathlib.Core.Path.{sym, _∙_}
 use borrow.Author.Tests.{le-leb, lt-leb, not-true, not-false}
-use Rattle.sound.specs.Records.{earlySound}
+use Rattle.sound.specs.Records.{dequeSound}
 use Rattle.sound.proofs.deque_sound.Statement.{statement}
 use Rattle.sound.proofs.deque_sound.Tie as tie
 
 returns : tie.Need-returns
-unfolding earlySound
+unfolding dequeSound
 returns c =
     rw (lt-leb _ _ (c .if1 .taken))
 
 returns-2 : tie.Need-returns-2
-unfolding earlySound
+unfolding dequeSound
 returns-2 c =
     let side = c .before .before in
     rw (le-leb _ _ (side .if1 .left), sym (c .before .read-sound .ensures) ∙ not-true _ (c .if2 .taken))
 
 returns-3 : tie.Need-returns-3
-unfolding earlySound
+unfolding dequeSound
 returns-3 c =
     let reads = c .before .before in
     let side = reads .before .before in
@@ -28,7 +28,7 @@ returns-3 c =
     )
 
 returns-4 : tie.Need-returns-4
-unfolding earlySound
+unfolding dequeSound
 returns-4 c =
     let call = c .before in
     let reads = call .before .before in

@@ -1,7 +1,5 @@
 -- The lower half against the smaller of two numbers.
-use mathlib.Core.Path.{_∙_}
-use Rattle.sound.proofs.Links.{by-least}
-use Rattle.sound.proofs.link_sound.Statement.{statement}
+use Rattle.sound.proofs.{Links.by-least, link_sound.Statement.statement}
 use Rattle.sound.proofs.link_sound.Tie as tie
 
 returns : tie.Need-returns

@@ -1,6 +1,5 @@
 -- The one or the other.
-use mathlib.Core.Path.{refl}
-use mathlib.Core.Logic.{inl, inr}
+use mathlib.Core.{Path.refl, Logic.{inl, inr}}
 use native.Mathlib.Omega.{arith}
 use Rattle.sound.proofs.most.Statement.{statement}
 use Rattle.sound.proofs.most.Tie as tie

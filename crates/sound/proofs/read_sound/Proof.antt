@@ -1,6 +1,5 @@
 -- One of both is beyond slots; or the link word's spare bits decide, or nothing is left to ask.
-use Rattle.sound.proofs.Links.{one-beyond, many-slots, few-slots}
-use Rattle.sound.proofs.read_sound.Statement.{statement}
+use Rattle.sound.proofs.{Links.{one-beyond, many-slots, few-slots}, read_sound.Statement.statement}
 use Rattle.sound.proofs.read_sound.Tie as tie
 
 returns : tie.Need-returns

@@ -1,21 +1,20 @@
 -- The first test that fails, or all at 11, of a push that draws, or of a pop that gives back.
 use mathlib.Core.Path.{_∙_}
 use borrow.Author.Tests.{eq-eqb, ne-eqb, le-leb, lt-leb, not-true, not-false}
-use Rattle.sound.specs.Records.{lateCall}
-use Rattle.sound.proofs.Late.{gives}
-use Rattle.sound.proofs.slot_call.Statement.{statement}
+use Rattle.sound.specs.Records.{slotCall}
+use Rattle.sound.proofs.{SlotPlaces.gives, slot_call.Statement.statement}
 use Rattle.sound.proofs.slot_call.Tie as tie
 
 returns : tie.Need-returns
-unfolding lateCall
+unfolding slotCall
 returns c = simp (eq-eqb _ _ (c .before .before .if1 .taken))
 
 returns-2 : tie.Need-returns-2
-unfolding lateCall
+unfolding slotCall
 returns-2 c = simp (ne-eqb _ _ (c .before .if1 .left), not-true (c .before .before .before .args .pooled) (c .if2 .taken))
 
 returns-3 : tie.Need-returns-3
-unfolding lateCall
+unfolding slotCall
 returns-3 c =
     let place = c .before .before in
     let pool = place .before .before in
@@ -28,7 +27,7 @@ returns-3 c =
     )
 
 returns-4 : tie.Need-returns-4
-unfolding lateCall
+unfolding slotCall
 returns-4 c =
     let kind = c .before .before in
     let place = kind .before .before in
@@ -42,7 +41,7 @@ returns-4 c =
     )
 
 returns-5 : tie.Need-returns-5
-unfolding lateCall
+unfolding slotCall
 returns-5 c =
     let own = c .before .before in
     let kind = own .before .before in
@@ -58,7 +57,7 @@ returns-5 c =
     )
 
 returns-6 : tie.Need-returns-6
-unfolding lateCall
+unfolding slotCall
 returns-6 c =
     let read = c .before in
     let first = read .before in
@@ -77,7 +76,7 @@ returns-6 c =
     )
 
 returns-7 : tie.Need-returns-7
-unfolding lateCall
+unfolding slotCall
 returns-7 c =
     let place = c .before .before in
     let pool = place .before .before in
@@ -90,7 +89,7 @@ returns-7 c =
     )
 
 returns-8 : tie.Need-returns-8
-unfolding lateCall
+unfolding slotCall
 returns-8 c =
     let kind = c .before .before in
     let place = kind .before .before in

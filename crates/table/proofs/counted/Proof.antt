@@ -1,6 +1,5 @@
 -- By the two tests, a case of the model's `counted`.
-use borrow.Author.Needs.{needs}
-use borrow.Author.Tests.{lt-ltb, le-ltb}
+use borrow.Author.{Needs.needs, Tests.{lt-ltb, le-ltb}}
 use Rattle.model.specs.Route.{counted}
 use Rattle.table.proofs.counted.Statement.{statement}
 use Rattle.table.proofs.counted.Tie as tie

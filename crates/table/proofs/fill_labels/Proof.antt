@@ -4,8 +4,7 @@ use Prim.Native.Nat.{ℕ, _-_}
 use native.Mathlib.Omega.{arith}
 use borrow.Author.Needs.{needs}
 use Rattle.model.specs.Lists.{zeroed}
-use Rattle.table.proofs.Filling.{Filled, filled-next}
-use Rattle.table.proofs.fill_labels.Statement.{statement}
+use Rattle.table.proofs.{Filling.{Filled, filled-next}, fill_labels.Statement.statement}
 use Rattle.table.proofs.fill_labels.Tie as tie
 
 abbrev Inv-loop : tie.InvT-loop

@@ -1,9 +1,8 @@
 -- The rows below i are stacked, the others as before.
 use Prim.Native.Nat.{_-_, _≤_}
-use native.Mathlib.Omega.{arith}
 use borrow.Author.Needs.{needs}
-use Rattle.table.proofs.Stack.{Stacked, stacked-none, stacked-only, stacked-more, stacked-last, within, same-length}
-use Rattle.table.proofs.fill_stack.Statement.{statement}
+use Rattle.table.proofs.Stack.{Stacked, stacked-none, stacked-only, stacked-more, stacked-last, within}
+use Rattle.table.proofs.{Stack.same-length, fill_stack.Statement.statement}
 use Rattle.table.proofs.fill_stack.Tie as tie
 
 -- The table as the loop finds it has its row 0 stored.

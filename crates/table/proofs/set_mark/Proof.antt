@@ -3,10 +3,8 @@ use mathlib.Core.Path.{sym, ap}
 use Prim.Native.Nat.{_/_, _%_}
 use native.Mathlib.Omega.{arith}
 use borrow.Author.Needs.{needs}
-use lib.ListN.{getD, set}
-use lib.Seq.{set-out}
-use Rattle.table.proofs.Bit.{or-bit}
-use Rattle.table.proofs.set_mark.Statement.{statement}
+use lib.{ListN.{getD, set}, Seq.set-out}
+use Rattle.table.proofs.{Bit.or-bit, set_mark.Statement.statement}
 use Rattle.table.proofs.set_mark.Tie as tie
 
 returns : tie.Need-returns

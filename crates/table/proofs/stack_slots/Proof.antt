@@ -1,8 +1,7 @@
 -- The test is the definition's.
 use borrow.Author.Needs.{needs}
 use Rattle.table.specs.Stacking.{stacking}
-use Rattle.table.proofs.Stack.{long}
-use Rattle.table.proofs.stack_slots.Statement.{statement}
+use Rattle.table.proofs.{Stack.long, stack_slots.Statement.statement}
 use Rattle.table.proofs.stack_slots.Tie as tie
 
 fill-stack-requires : tie.Need-fill-stack-requires

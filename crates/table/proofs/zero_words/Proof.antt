@@ -1,6 +1,5 @@
 -- The test is the definition's.
-use borrow.Author.Needs.{needs}
-use borrow.Author.Tests.{le-leb, lt-leb}
+use borrow.Author.{Needs.needs, Tests.{le-leb, lt-leb}}
 use Rattle.table.specs.Zeroing.{zeroing}
 use Rattle.table.proofs.zero_words.Statement.{statement}
 use Rattle.table.proofs.zero_words.Tie as tie

@@ -1,21 +1,16 @@
 -- A hand that owes nothing: it goes on (waits), or is decided and changes no shared word (plain).
-use mathlib.Core.Path.{_≡_, refl, ap, sym, subst, _∙_}
-use mathlib.Core.List.{List, [], _++_}
+use mathlib.Core.{Path.{_≡_, refl, ap, sym, subst, _∙_}, List.{List, [], _++_}}
 use Prim.Native.Nat.{ℕ, _<_, _≤_, _/_}
-use lib.Dec.{eqb}
-use lib.ListN.{length, getD}
+use lib.{Dec.eqb, ListN.{length, getD}}
 use borrow.Author.Tests.{eqb-true, eqb-false}
-use Rattle.model.specs.declared.{Record.Record, Outcome.Outcome, Op.Op}
+use Rattle.model.specs.{declared.{Record.Record, Outcome.Outcome, Op.Op}, Calls.{act, back}}
 use Rattle.model.specs.Tables.{Tables, Queue, taskAt, marked, withMark}
-use Rattle.model.specs.Calls.{act, back}
-use Rattle.model.proofs.tests.Truth.{split}
-use Rattle.model.proofs.bridge.Marks.{marked-same, marked-other}
+use Rattle.model.proofs.{tests.Truth.split, bridge.Marks.{marked-same, marked-other}}
 use Rattle.threads_model.specs.Instructions.{Hand, labels, marks, ends, Ticked, quiet, decided, written, toldAtEnd}
 use Rattle.threads_model.specs.Crew.{Crew, withHand, owed}
 use Rattle.threads.specs.Promises.{recordOf, OwesLabel, OwesMark}
 use Rattle.threads.proofs.follow.Good as own
-use Rattle.threads.proofs.follow.Good.{Good}
-use Rattle.threads.proofs.follow.Relation.{Extra, Moment, Sim, none}
+use Rattle.threads.proofs.follow.{Good.Good, Relation.{Extra, Moment, Sim, none}}
 use Rattle.threads.proofs.follow.Instruction as I
 
 module _ (now : Moment) where

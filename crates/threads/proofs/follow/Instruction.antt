@@ -1,30 +1,20 @@
 -- What an instruction must show (Goal): one that decides nothing (quietly), one that decides (turning, deciding).
-use mathlib.Core.Path.{_≡_, refl, ap, sym, subst, _∙_}
-use mathlib.Core.Bool.{Bool, false, cond}
-use mathlib.Core.List.{List, [], _∷_, _++_}
+use mathlib.Core.{Path.{_≡_, refl, ap, sym, subst, _∙_}, Bool.{Bool, false, cond}, List.{List, [], _∷_, _++_}}
 use Prim.Native.Nat.{ℕ, _<_}
 use native.Mathlib.Omega.{arith}
-use lib.Dec.{eqb}
-use lib.ListN.{length, getD, set, length-set}
-use lib.Seq.{getD-set-same, getD-set-other}
+use lib.{Dec.eqb, ListN.{length, getD, set, length-set}, Seq.{getD-set-same, getD-set-other}}
 use borrow.Author.Tests.{eqb-true, eqb-false, eq-eqb}
-use Rattle.model.specs.declared.{Record.Record, Outcome.Outcome, Op.Op}
-use Rattle.model.specs.Tables.{Tables, Queue, taskAt, recordAt, marked, unused}
-use Rattle.model.specs.{Places.row, Lists.All, History.Event}
-use Rattle.model.specs.Calls.{Acted, Done, act, back}
-use Rattle.model.specs.declared.Outcome.the-variants.{Refused}
-use Rattle.model.proofs.tests.Truth.{split}
-use Rattle.model.proofs.invariant.Owners.{held}
-use Rattle.threads_model.specs.Split.{plan}
-use Rattle.threads_model.specs.Turns.{Turn, takeEarly, runTurns, finalTurns}
-use Rattle.threads_model.specs.Instructions.{Hand, free, begun, loaded, knows, claims, looks, labels, marks, ends, Ticked, quiet, decided}
-use Rattle.threads_model.specs.Instructions.{written, toldAtEnd}
+use Rattle.model.specs.{declared.{Record.Record, Outcome.{Outcome, the-variants.Refused}, Op.Op}, Places.row, Lists.All}
+use Rattle.model.specs.{Tables.{Tables, Queue, taskAt, recordAt, marked, unused}, History.Event}
+use Rattle.model.{specs.Calls.{Acted, Done, act, back}, proofs.{tests.Truth.split, invariant.Owners.held}}
+use Rattle.threads_model.specs.{Split.plan, Turns.{Turn, takeEarly, runTurns, finalTurns}}
+use Rattle.threads_model.specs.Instructions.{Hand, free, begun, loaded, knows, claims, looks, labels, marks, ends}
+use Rattle.threads_model.specs.Instructions.{Ticked, quiet, decided, written, toldAtEnd}
 use Rattle.threads_model.specs.Crew.{Crew, withHand, turnsOf, outcomesOf, owed}
 use Rattle.threads.specs.Promises.{recordOf, OwesLabel, OwesMark}
-use Rattle.threads.proofs.follow.{Overlay.overlay, Plans.says, Good.Good}
-use Rattle.threads.proofs.lists.EarlyPush.{shown}
-use Rattle.threads.proofs.follow.Good as own
+use Rattle.threads.proofs.{follow.{Overlay.overlay, Plans.says, Good.Good}, lists.EarlyPush.shown}
 use Rattle.threads.proofs.follow.Relation.{Extra, Holds, Moment, Sim, Wrote, none, one}
+use Rattle.threads.proofs.follow.Good as own
 
 module _ (now : Moment) where
   abbrev tasks : ℕ

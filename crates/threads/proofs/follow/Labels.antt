@@ -1,25 +1,16 @@
 -- A label that a thread's next instruction touches is of a slot that the thread owns; so no two threads touch one.
-use mathlib.Core.Path.{_≡_, refl, ap, sym, subst, _∙_}
-use mathlib.Core.Bool.{true, false, cond}
-use mathlib.Core.Logic.{_≢_}
+use mathlib.Core.{Path.{_≡_, refl, ap, sym, subst, _∙_}, Logic._≢_}
 use Prim.Native.Nat.{ℕ, _<_}
 use lib.Dec.{eqb}
 use borrow.Author.Tests.{eqb-true}
-use Rattle.model.specs.declared.Record.{Record}
-use Rattle.model.specs.declared.Op.the-variants.{Push, Pop, PushPooled, Step}
-use Rattle.model.specs.Tables.{Queue, taskAt}
-use Rattle.model.specs.Places.{row}
-use Rattle.model.proofs.tests.Truth.{by-test}
-use Rattle.model.proofs.invariant.Owners.{Owner, held}
-use Rattle.threads_model.specs.Split.{plan}
-use Rattle.threads_model.specs.Instructions.{Hand, free, begun, loaded, knows, claims, looks, labels, marks, ends, labelTouched}
-use Rattle.threads_model.specs.Crew.{Crew, labelNext}
+use Rattle.model.specs.{declared.{Record.Record, Op.the-variants.{Push, Pop, PushPooled, Step}}, Tables.{Queue, taskAt}}
+use Rattle.model.{specs.Places.row, proofs.{tests.Truth.by-test, invariant.Owners.{Owner, held}}}
+use Rattle.threads_model.specs.{Split.plan, Instructions.labelTouched, Crew.{Crew, labelNext}}
+use Rattle.threads_model.specs.Instructions.{Hand, free, begun, loaded, knows, claims, looks, labels, marks, ends}
 use Rattle.threads.specs.Promises.{recordOf}
-use Rattle.threads.proofs.follow.Plans.{says}
+use Rattle.threads.proofs.follow.{Plans.says, Good.Good, Relation.{Extra, Sim}}
 use Rattle.threads.proofs.follow.Good as own
-use Rattle.threads.proofs.follow.Good.{Good}
 use Rattle.threads.proofs.follow.Relation as R
-use Rattle.threads.proofs.follow.Relation.{Extra, Sim}
 
 module _ (tasks pooled slots : ℕ) (m : Crew) (q : Queue) (f : Sim tasks pooled slots m q) (g : Good tasks pooled slots q) where
   abbrev h : ℕ → Owner

@@ -1,25 +1,21 @@
 -- A late Anchor stays late: whatever the records hold, no instruction lowers Anchor's tag.
-use mathlib.Core.Path.{_≡_, refl, ap, sym, subst}
-use mathlib.Core.Bool.{Bool, true, false, not}
-use mathlib.Core.List.{List}
+use mathlib.Core.{Path.{_≡_, refl, ap, sym, subst}, Bool.{Bool, true, false, not}, List.List}
 use Prim.Native.Nat.{ℕ, _<_, _≤_}
 use native.Mathlib.Omega.{arith}
 use lib.{Dec.eqb, ListN.getD}
 use borrow.Author.Tests.{eqb-true, ltb-true, lt-ltb}
 use Rattle.word.specs.Anchor.{anchorOf}
-use Rattle.model.specs.declared.{Call.Call, Record.Record, Outcome.Outcome, Op.Op}
-use Rattle.model.specs.declared.Op.the-variants.{Push, Pop, PushPooled, Step}
+use Rattle.model.specs.{declared.{Call.Call, Record.Record, Outcome.Outcome}, Sides.links, Sound.linkSound}
+use Rattle.model.specs.{declared.Op.{Op, the-variants.{Push, Pop, PushPooled, Step}}, Refusals.late}
 use Rattle.model.specs.Tables.{Tables, taskAt, marked, withAnchor, started, asking}
-use Rattle.model.specs.{Sides.links, Sound.linkSound, Refusals.late}
 use Rattle.model.proofs.tests.Truth.{either, by-test, not-both}
-use Rattle.threads_model.specs.declared.PlannedTouch.{PlannedTouch}
-use Rattle.threads_model.specs.Split.{Touched, perform, plan}
-use Rattle.threads_model.specs.Starts.{ownRefusal}
-use Rattle.threads_model.specs.Instructions.{Hand, free, begun, loaded, knows, claims, looks, labels, marks, ends, Ticked}
-use Rattle.threads_model.specs.Instructions.{isToPut, isAsRead, loadsOwn, putsOwn, readsNext, atOnce, oneWord, replaces, stepFirst, clears, tick}
+use Rattle.threads_model.specs.{declared.PlannedTouch.PlannedTouch, Split.{Touched, perform, plan}, Starts.ownRefusal}
+use Rattle.threads_model.specs.Instructions.{Hand, free, begun, loaded, knows, claims, looks, labels, marks, ends, tick}
+use Rattle.threads_model.specs.Instructions.{Ticked, isToPut, isAsRead, loadsOwn, putsOwn, readsNext, atOnce, oneWord}
+use Rattle.threads_model.specs.Instructions.{replaces, stepFirst, clears}
 use Rattle.threads_model.specs.Crew.{Crew, Act, calls, next, takesUp, ticked, go}
-use Rattle.threads.proofs.follow.Plans.{Two, says}
-use Rattle.threads.proofs.follow.Starting.{plainStart, namedOwn, first-pop, first-put, first-push, claims-is, looks-is}
+use Rattle.threads.proofs.follow.{Plans.{Two, says}, Starting.first-push-pooled}
+use Rattle.threads.proofs.follow.Starting.{claims-is, looks-is, plainStart, namedOwn, first-pop, first-push}
 
 -- A push that has passed 33, and had no turn yet.
 abbrev pub isClaims : Hand → Bool
@@ -131,7 +127,7 @@ module _ (q : Tables) (l : IsLate q) where
         subst Ticks (sym (first-pop q r pooled slots side))
         (either Ticks (eqb (ownRefusal pooled slots (r .call) side false false) 0) (either Ticks (late (q .control)) l l) l)
     ticks (begun (PushPooled side label)) =
-        subst Ticks (sym (first-put q r pooled slots side label))
+        subst Ticks (sym (first-push-pooled q r pooled slots side label))
         (either Ticks (eqb (ownRefusal pooled slots (r .call) side (not (eqb pooled 1)) false) 0) (either Ticks (late (q .control)) l l) l)
     ticks (begun Step) = steps
     ticks (loaded w) = replacing w
@@ -167,16 +163,16 @@ module _ (pooled slots : ℕ) where
   keeps m m′ (marks slot task o) f h = tt
   keeps m m′ (ends task o) f h = tt
 
-  taken-up : (m : Crew) (k : Hand) (op : Op) → Late m k → Late m (takesUp k op)
-  taken-up m free op h = tt
-  taken-up m (begun o) op h = tt
-  taken-up m (loaded w) op h = tt
-  taken-up m (knows label) op h = tt
-  taken-up m (claims side slot label) op h = tt
-  taken-up m (looks side slot label) op h = h
-  taken-up m (labels both slot label task o) op h = tt
-  taken-up m (marks slot task o) op h = tt
-  taken-up m (ends task o) op h = tt
+  up-late : (m : Crew) (k : Hand) (op : Op) → Late m k → Late m (takesUp k op)
+  up-late m free op h = tt
+  up-late m (begun o) op h = tt
+  up-late m (loaded w) op h = tt
+  up-late m (knows label) op h = tt
+  up-late m (claims side slot label) op h = tt
+  up-late m (looks side slot label) op h = h
+  up-late m (labels both slot label task o) op h = tt
+  up-late m (marks slot task o) op h = tt
+  up-late m (ends task o) op h = tt
 
   -- What an instruction of a hand k₀ leaves: a hand that looks has found Anchor late, one that claims a slot early; only one that claims passes 33.
   pub record LateAfter (k₀ : Hand) (k : Ticked) : Type 0 where
@@ -185,8 +181,8 @@ module _ (pooled slots : ℕ) where
     pub early : isClaims k₀ ≡ false → k .early ≡ false
 
   module _ (q : Tables) (r : Record) where
-    abbrev asked : PlannedTouch
-    asked = plan pooled slots (r .call)
+    abbrev planned : PlannedTouch
+    planned = plan pooled slots (r .call)
 
     ending : (k₀ : Hand) (q : Tables) (task : Record) (o : Outcome) (ds : List Op) → LateAfter k₀
         (record { tables = q; hand = ends task o; decides = ds; early = false })
@@ -195,18 +191,18 @@ module _ (pooled slots : ℕ) where
     loads-left : (k₀ : Hand) → LateAfter k₀ (loadsOwn pooled slots q r)
     unfolding loadsOwn
     loads-left k₀ =
-        either (LateAfter k₀) (isToPut slots asked (getD (links q (asked .side)) (asked .slot) 0))
+        either (LateAfter k₀) (isToPut slots planned (getD (links q (planned .side)) (planned .slot) 0))
         (record { hand = tt; claim = λ e. absurd (not-both e refl); early = λ _. refl })
         (ending k₀ _ _ _ _)
 
     puts-left : (k₀ : Hand) (w : ℕ) → LateAfter k₀ (putsOwn pooled slots q r w)
     unfolding putsOwn
-    puts-left k₀ w = either (LateAfter k₀) (isAsRead q asked w) (ending k₀ _ _ _ _) (loads-left k₀)
+    puts-left k₀ w = either (LateAfter k₀) (isAsRead q planned w) (ending k₀ _ _ _ _) (loads-left k₀)
 
     next-left : (k₀ : Hand) → LateAfter k₀ (readsNext pooled slots q r)
     unfolding readsNext
     next-left k₀ =
-        either (LateAfter k₀) (eqb (getD (q .next) (asked .slot) 0) (asked .word)) (ending k₀ _ _ _ _)
+        either (LateAfter k₀) (eqb (getD (q .next) (planned .slot) 0) (planned .word)) (ending k₀ _ _ _ _)
         (record { hand = tt; claim = λ e. absurd (not-both e refl); early = λ _. refl })
 
     once-left : (k₀ : Hand) → LateAfter k₀ (atOnce pooled slots q r)
@@ -215,19 +211,19 @@ module _ (pooled slots : ℕ) where
 
     word-left : (k₀ : Hand) → LateAfter k₀ (oneWord pooled slots q r)
     unfolding oneWord
-    word-left k₀ = either (LateAfter k₀) (eqb (asked .act) 11) (next-left k₀) (once-left k₀)
+    word-left k₀ = either (LateAfter k₀) (eqb (planned .act) 11) (next-left k₀) (once-left k₀)
 
     replaced-left : (k₀ : Hand) (w : ℕ) → LateAfter k₀ (replaces pooled slots q r w)
     unfolding replaces
-    replaced-left k₀ w = either (LateAfter k₀) (eqb (asked .act) 11) (once-left k₀) (puts-left k₀ w)
+    replaced-left k₀ w = either (LateAfter k₀) (eqb (planned .act) 11) (once-left k₀) (puts-left k₀ w)
 
     step-left : (k₀ : Hand) → LateAfter k₀ (stepFirst pooled slots q r)
     unfolding stepFirst
     step-left k₀ =
-        either (LateAfter k₀) (eqb (asked .act) 5) (loads-left k₀)
-        (either (LateAfter k₀) (eqb (asked .act) 6) (record { hand = tt; claim = λ e. absurd (not-both e refl); early = λ _. refl })
-        (either (LateAfter k₀) (eqb (asked .act) 9)
-        (either (LateAfter k₀) (eqb (q .control .head) (asked .expected))
+        either (LateAfter k₀) (eqb (planned .act) 5) (loads-left k₀)
+        (either (LateAfter k₀) (eqb (planned .act) 6) (record { hand = tt; claim = λ e. absurd (not-both e refl); early = λ _. refl })
+        (either (LateAfter k₀) (eqb (planned .act) 9)
+        (either (LateAfter k₀) (eqb (q .control .head) (planned .expected))
         (record { hand = tt; claim = λ e. absurd (not-both e refl); early = λ _. refl }) (ending k₀ _ _ _ _))
         (word-left k₀)))
 
@@ -248,7 +244,7 @@ module _ (pooled slots : ℕ) where
     tick-left (begun (Pop side)) = subst (LateAfter (begun (Pop side))) (sym (first-pop q r pooled slots side))
         (plain-left (begun (Pop side)) (Pop side) (ownRefusal pooled slots (r .call) side false false) (started 1 side 0 0) 1)
     tick-left (begun (PushPooled side label)) =
-        subst (LateAfter (begun (PushPooled side label))) (sym (first-put q r pooled slots side label))
+        subst (LateAfter (begun (PushPooled side label))) (sym (first-push-pooled q r pooled slots side label))
         (plain-left (begun (PushPooled side label)) (PushPooled side label) (ownRefusal pooled slots (r .call) side (not (eqb pooled 1)) false)
         (asking side label) 12)
     tick-left (begun Step) = step-left (begun Step)
@@ -269,7 +265,7 @@ module _ (pooled slots : ℕ) where
   pub go-all-late : (m : Crew) (a : Act) → AllLate m → AllLate (go pooled slots m a)
   unfolding go
   go-all-late m (calls o) h u =
-      by-test (Late m) (eqb u (o .task)) (λ e. taken-up m (m .hands (o .task)) (o .op) (h (o .task))) (λ e. h u)
+      by-test (Late m) (eqb u (o .task)) (λ e. up-late m (m .hands (o .task)) (o .op) (h (o .task))) (λ e. h u)
   go-all-late m (next t) h u =
       let k = ticked pooled slots m t in
       by-test (HandLate (k .tables)) (eqb u t) (λ e. tick-left (m .queue .tables) (taskAt (m .queue) t) (m .hands t) .hand)

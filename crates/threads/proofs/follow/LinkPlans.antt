@@ -1,21 +1,16 @@
 -- Which places plan a change of a link word: 3, of a push's own slot, and 9.
-use mathlib.Core.Path.{_≡_, refl}
-use mathlib.Core.Bool.{false, _&&_, _||_, not}
-use mathlib.Core.Logic.{_⊎_, inl, inr}
+use mathlib.Core.{Path.{_≡_, refl}, Bool.{false, _&&_, _||_, not}, Logic.{_⊎_, inl, inr}}
 use Prim.Native.Nat.{ℕ}
 use native.Mathlib.Omega.{arith}
 use lib.Dec.{eqb}
 use borrow.Author.Tests.{eqb-true, eqb-false}
-use Rattle.model.specs.declared.{Control.Control, Call.Call}
-use Rattle.model.specs.Tables.{isPooled}
-use Rattle.model.specs.Kinds.{isPush, drawing, giving}
-use Rattle.model.specs.Sound.{from1}
-use Rattle.model.specs.Places.{Move, Touch, nothing, setAnchor, setLink, clearMark, takeSlot, setNext, setHead, row, linkSide, move}
-use Rattle.model.specs.Places.{at1, at2, at3, at4, at5, at6, at7, at9, at10, at11, at12, at13, at14, at15, at16, at17}
+use Rattle.model.specs.{declared.{Control.Control, Call.Call}, Tables.isPooled, Kinds.{isPush, drawing, giving}}
+use Rattle.model.{specs.{Sound.from1, Places.{at15, at16, at17}}, proofs.tests.Truth.{either, by-test}}
+use Rattle.model.specs.Places.{Move, Touch, nothing, setAnchor, setLink, clearMark, takeSlot, setNext, setHead, row}
+use Rattle.model.specs.Places.{linkSide, move, at1, at2, at3, at4, at5, at6, at7, at9, at10, at11, at12, at13, at14}
 use Rattle.model.specs.Refusals.{needsRow, meetsLink, leavesSound, hasRoom, recordRefusal}
-use Rattle.model.proofs.tests.Truth.{either, by-test}
-use Rattle.threads_model.specs.declared.PlannedTouch.{PlannedTouch}
-use Rattle.threads_model.specs.Split.{refuses, loadsAnchor, loadsLink, loadsHead, loadsNext, loads, asks, planFor, planned, plan, knowing, touchAsRead}
+use Rattle.threads_model.specs.{declared.PlannedTouch.PlannedTouch, Split.{planned, knowing, touchAsRead}}
+use Rattle.threads_model.specs.Split.{refuses, loadsAnchor, loadsLink, loadsHead, loadsNext, loads, asks, planFor, plan}
 
 -- Where a link word is changed, and which.
 pub record Put (r : Call) (d x : ℕ) : Type 0 where

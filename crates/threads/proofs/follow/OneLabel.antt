@@ -1,26 +1,16 @@
 -- An instruction touches one label at most.
-use mathlib.Core.Path.{_≡_, refl, ap, sym, subst, _∙_}
-use mathlib.Core.Bool.{Bool, true, false, cond}
-use mathlib.Core.List.{List, []}
-use mathlib.Core.Logic.{_≢_}
+use mathlib.Core.{Path.{_≡_, refl, ap, sym, subst, _∙_}, Bool.{Bool, true, false, cond}, List.{List, []}, Logic._≢_}
 use Prim.Native.Nat.{ℕ}
-use lib.Dec.{eqb}
-use lib.ListN.{getD, set}
-use lib.Seq.{getD-set-other, set-comm}
+use lib.{Dec.eqb, ListN.{getD, set}, Seq.{getD-set-other, set-comm}}
 use borrow.Author.Tests.{eqb-true}
-use Rattle.model.specs.declared.Record.{Record}
-use Rattle.model.specs.declared.Outcome.{Outcome}
-use Rattle.model.specs.declared.Op.{Op}
-use Rattle.model.specs.declared.Op.the-variants.{Push, Pop, PushPooled, Step}
-use Rattle.model.specs.Tables.{Tables, marked, withMark, withMarks}
-use Rattle.model.specs.Sides.{links}
-use Rattle.threads_model.specs.declared.PlannedTouch.{PlannedTouch}
-use Rattle.threads_model.specs.declared.Start.{Start}
-use Rattle.threads_model.specs.Split.{plan, perform, settle}
+use Rattle.model.specs.declared.{Record.Record, Outcome.Outcome, Op.{Op, the-variants.{Push, Pop, PushPooled, Step}}}
+use Rattle.model.specs.{Tables.{Tables, marked, withMark, withMarks}, Sides.links}
+use Rattle.threads_model.specs.{declared.{PlannedTouch.PlannedTouch, Start.Start}, Split.{plan, perform, settle}}
 use Rattle.threads_model.specs.Starts.{Begins, touches, answers, names, pops, puts, planStart, settleStart}
-use Rattle.threads_model.specs.Instructions.{Hand, free, begun, loaded, knows, claims, looks, labels, marks, ends, Ticked, quiet, decided, settled, tick}
-use Rattle.threads_model.specs.Instructions.{awaits, withLabels, labelTouched, isToPut, loadsOwn, isAsRead, putsOwn, readsNext, atOnce, oneWord, replaces}
-use Rattle.threads_model.specs.Instructions.{stepFirst, clears, startFirst, claimsMark, looksMark}
+use Rattle.threads_model.specs.Instructions.{Hand, free, begun, loaded, knows, claims, looks, labels, marks, ends, tick}
+use Rattle.threads_model.specs.Instructions.{Ticked, quiet, decided, settled, awaits, withLabels, labelTouched, isToPut}
+use Rattle.threads_model.specs.Instructions.{loadsOwn, isAsRead, putsOwn, readsNext, atOnce, oneWord, replaces, clears}
+use Rattle.threads_model.specs.Instructions.{stepFirst, startFirst, claimsMark, looksMark}
 use Rattle.threads.specs.Promises.{relabelled, TouchesOneLabel}
 use Rattle.threads.proofs.follow.Overlay.{overlay, both, over}
 

@@ -1,33 +1,22 @@
 -- The own link word of a push at 3, once loaded, is nobody else's to change: so its compare-and-swap fits.
-use mathlib.Core.Path.{_≡_, refl, ap, sym, subst, _∙_}
-use mathlib.Core.Bool.{Bool, true, false, cond, not}
+use mathlib.Core.{Path.{_≡_, refl, ap, sym, subst, _∙_}, Bool.{Bool, true, false, cond, not}}
 use Prim.Native.Nat.{ℕ, _<_}
 use native.Mathlib.Omega.{arith}
-use lib.Dec.{eqb}
-use lib.ListN.{length, getD, set}
-use lib.Seq.{getD-set-same, getD-set-other}
+use lib.{Dec.eqb, ListN.{length, getD, set}, Seq.{getD-set-same, getD-set-other}}
 use borrow.Author.Tests.{eqb-true, eqb-false, eq-eqb}
-use Rattle.model.specs.declared.{Record.Record}
-use Rattle.model.specs.declared.Op.the-variants.{Push, Pop, PushPooled, Step}
-use Rattle.model.specs.Tables.{Tables, Queue, taskAt, unused, linked, marked}
-use Rattle.model.specs.{Sides.links, Refusals.late}
-use Rattle.model.specs.Places.{linkSide, row}
-use Rattle.model.proofs.tests.Truth.{either, by-test, not-both, split}
-use Rattle.model.proofs.invariant.Owners.{Owner, held, queued}
+use Rattle.model.specs.{declared.{Record.Record, Op.the-variants.{Push, Pop, PushPooled, Step}}, Sides.links}
+use Rattle.model.specs.{Tables.{Tables, Queue, taskAt, unused, linked, marked}, Refusals.late, Places.{linkSide, row}}
+use Rattle.model.proofs.{tests.Truth.{either, by-test, not-both, split}, invariant.Owners.{Owner, held, queued}}
 use Rattle.model.proofs.places.Owned.{queued-held}
-use Rattle.threads_model.specs.declared.PlannedTouch.{PlannedTouch}
-use Rattle.threads_model.specs.Split.{Touched, perform, plan}
-use Rattle.threads_model.specs.Starts.{ownRefusal}
-use Rattle.threads_model.specs.Instructions.{Hand, free, begun, loaded, knows, claims, looks, labels, marks, ends, Ticked}
-use Rattle.threads_model.specs.Instructions.{atOnce, isAsRead, isToPut, loadsOwn, oneWord, putInto, putsOwn, readsNext, replaces, stepFirst, clears}
-use Rattle.threads_model.specs.Instructions.{tick, written}
+use Rattle.threads_model.specs.{declared.PlannedTouch.PlannedTouch, Split.{Touched, perform, plan}, Starts.ownRefusal}
+use Rattle.threads_model.specs.Instructions.{Hand, free, begun, loaded, knows, claims, looks, labels, marks, ends, tick}
+use Rattle.threads_model.specs.Instructions.{Ticked, atOnce, isAsRead, isToPut, loadsOwn, oneWord, putInto, putsOwn}
+use Rattle.threads_model.specs.Instructions.{readsNext, replaces, stepFirst, clears, written}
 use Rattle.threads_model.specs.Crew.{Crew, next, ticked, go}
 use Rattle.threads.specs.Promises.{recordOf}
-use Rattle.threads.proofs.follow.LinkPlans.{changes}
-use Rattle.threads.proofs.follow.Starting.{namedOwn, first-pop, first-put, first-push, claims-is, looks-is}
+use Rattle.threads.proofs.follow.{LinkPlans.changes, Starting.looks-is, Good.Good, Relation.{Extra, Sim}}
+use Rattle.threads.proofs.follow.Starting.{namedOwn, first-pop, first-push-pooled, first-push, claims-is}
 use Rattle.threads.proofs.follow.Good as own
-use Rattle.threads.proofs.follow.Good.{Good}
-use Rattle.threads.proofs.follow.Relation.{Extra, Sim}
 
 -- Another row's link words stay.
 linked-other : (q : Tables) (d y w side x : ℕ) → (x ≡ y → ⊥) → getD (links (linked q d y w) side) x 0 ≡ getD (links q side) x 0
@@ -95,7 +84,7 @@ module _ (pooled slots : ℕ) where
         (either Own (eqb (namedOwn pooled slots (r .call) side slot) 0) (either Own (late (q .control)) tt tt) tt)
     own-reads (begun (Pop side)) = subst Own (sym (first-pop q r pooled slots side))
         (either Own (eqb (ownRefusal pooled slots (r .call) side false false) 0) (either Own (late (q .control)) tt tt) tt)
-    own-reads (begun (PushPooled side label)) = subst Own (sym (first-put q r pooled slots side label))
+    own-reads (begun (PushPooled side label)) = subst Own (sym (first-push-pooled q r pooled slots side label))
         (either Own (eqb (ownRefusal pooled slots (r .call) side (not (eqb pooled 1)) false) 0) (either Own (late (q .control)) tt tt) tt)
     own-reads (begun Step) = own-steps
     own-reads (loaded w) = own-replaces w
@@ -121,31 +110,31 @@ module _ (pooled slots : ℕ) where
       keeps-puts w ne = either Keeps (isAsRead q (planOf r) w)
           (λ side. linked-other q (planOf r .side) (planOf r .slot) (putInto (planOf r) w) side x ne) keeps-loads
 
-      abbrev Left : Touched → Type 0
-      Left d = (side : ℕ) → getD (links (d .tables) side) x 0 ≡ getD (links q side) x 0
+      abbrev LinksKept : Touched → Type 0
+      LinksKept d = (side : ℕ) → getD (links (d .tables) side) x 0 ≡ getD (links q side) x 0
 
       abbrev Row : Tables → Type 0
       Row t = (side : ℕ) → getD (links t side) x 0 ≡ getD (links q side) x 0
 
       keeps-touch : (p : PlannedTouch) → eqb (p .act) 5 ≡ false
-          → (p .act ≡ 4 → getD (links q (p .side)) (p .slot) 0 ≡ p .expected → x ≡ p .slot → ⊥) → Left (perform q p)
+          → (p .act ≡ 4 → getD (links q (p .side)) (p .slot) 0 ≡ p .expected → x ≡ p .slot → ⊥) → LinksKept (perform q p)
       unfolding perform
       keeps-touch p no5 ne =
           let same : Row q = λ (side : ℕ). refl in
           let head = q .control .head in
-          either Left (eqb (p .act) 1) same
-          (either Left (eqb (p .act) 2) (either Row (eqb (q .control .anchor) (p .expected)) same same)
-          (either Left (eqb (p .act) 3) same
-          (by-test Left (eqb (p .act) 4)
+          either LinksKept (eqb (p .act) 1) same
+          (either LinksKept (eqb (p .act) 2) (either Row (eqb (q .control .anchor) (p .expected)) same same)
+          (either LinksKept (eqb (p .act) 3) same
+          (by-test LinksKept (eqb (p .act) 4)
           (λ e. by-test Row (eqb (getD (links q (p .side)) (p .slot) 0) (p .expected))
           (λ z side. linked-other q (p .side) (p .slot) (p .word) side x (ne (eqb-true _ _ e) (eqb-true _ _ z))) (λ _. same))
-          (λ _. by-test Left (eqb (p .act) 5) (λ e. absurd (not-both e no5))
-          (λ _. either Left (eqb (p .act) 6) same
-          (either Left (eqb (p .act) 7) same
-          (either Left (eqb (p .act) 8) (either Row (eqb head (p .expected)) same same)
-          (either Left (eqb (p .act) 9) (either Row (eqb head (p .expected)) same same)
-          (either Left (eqb (p .act) 10) same
-          (either Left (eqb (p .act) 11) same same))))))))))
+          (λ _. by-test LinksKept (eqb (p .act) 5) (λ e. absurd (not-both e no5))
+          (λ _. either LinksKept (eqb (p .act) 6) same
+          (either LinksKept (eqb (p .act) 7) same
+          (either LinksKept (eqb (p .act) 8) (either Row (eqb head (p .expected)) same same)
+          (either LinksKept (eqb (p .act) 9) (either Row (eqb head (p .expected)) same same)
+          (either LinksKept (eqb (p .act) 10) same
+          (either LinksKept (eqb (p .act) 11) same same))))))))))
 
       keeps-once : eqb (planOf r .act) 5 ≡ false
           → (planOf r .act ≡ 4 → getD (links q (planOf r .side)) (planOf r .slot) 0 ≡ planOf r .expected → x ≡ planOf r .slot → ⊥)
@@ -234,7 +223,7 @@ module _ (tasks pooled slots : ℕ) (m : Crew) (q : Queue) (f : Sim tasks pooled
         (either Stay (eqb (namedOwn pooled slots (r .call) side slot) 0) (either Stay (late (T .control)) (λ _. refl) (λ _. refl)) (λ _. refl))
     spares (begun (Pop side)) at = subst Stay (sym (first-pop T r pooled slots side))
         (either Stay (eqb (ownRefusal pooled slots (r .call) side false false) 0) (either Stay (late (T .control)) (λ _. refl) (λ _. refl)) (λ _. refl))
-    spares (begun (PushPooled side label)) at = subst Stay (sym (first-put T r pooled slots side label))
+    spares (begun (PushPooled side label)) at = subst Stay (sym (first-push-pooled T r pooled slots side label))
         (either Stay (eqb (ownRefusal pooled slots (r .call) side (not (eqb pooled 1)) false) 0)
         (either Stay (late (T .control)) (λ _. refl) (λ _. refl)) (λ _. refl))
     spares (begun Step) at = keeps-steps pooled slots T r x

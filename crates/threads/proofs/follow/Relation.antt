@@ -1,14 +1,9 @@
 -- The relation between threads and list: the same memory but for the labels and marks that a thread owes, each of a slot that it owns.
-use mathlib.Core.Path.{_≡_, ap, sym, subst}
-use mathlib.Core.Bool.{true, false}
-use mathlib.Core.List.{List}
+use mathlib.Core.{Path.{_≡_, ap, sym, subst}, Bool.{true, false}, List.List}
 use Prim.Native.Nat.{ℕ, _<_}
-use lib.Dec.{eqb}
-use lib.ListN.{length, getD, set}
+use lib.{Dec.eqb, ListN.{length, getD, set}}
 use borrow.Author.Tests.{eqb-false}
-use Rattle.model.specs.declared.Record.{Record}
-use Rattle.model.specs.Tables.{Tables, Queue, taskAt, marked}
-use Rattle.model.specs.{Sound.linkSound, Calls.Acted}
+use Rattle.model.specs.{declared.Record.Record, Tables.{Tables, Queue, taskAt, marked}, Sound.linkSound, Calls.Acted}
 use Rattle.model.proofs.invariant.Owners.{Owner, held}
 use Rattle.threads_model.specs.{Split.plan, Crew.Crew}
 use Rattle.threads_model.specs.Instructions.{Hand, free, begun, loaded, knows, claims, looks, labels, marks, ends}

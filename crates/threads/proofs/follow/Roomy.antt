@@ -1,20 +1,14 @@
 -- Whatever instruction is made, Anchor's tag keeps room for the changes still to come; a push that claims its slot counts as one that owes two.
-use mathlib.Core.Path.{_≡_, refl, ap, sym, subst, _∙_}
-use mathlib.Core.Bool.{Bool, true, false, cond}
-use mathlib.Core.List.{List, [], _∷_}
+use mathlib.Core.{Path.{_≡_, refl, ap, sym, subst, _∙_}, Bool.{Bool, true, false, cond}, List.{List, [], _∷_}}
 use Prim.Native.Nat.{ℕ}
 use lib.Dec.{eqb}
-use Rattle.model.specs.declared.Op.{Op}
-use Rattle.model.specs.Tables.{Queue, taskAt, marked, started}
-use Rattle.model.specs.{Refusals.late, Calls.act}
-use Rattle.model.proofs.tests.Truth.{either, split, not-both}
-use Rattle.model.proofs.unsound.StartSafe.{Room}
-use Rattle.threads_model.specs.Turns.{takeEarly, finalTurns}
-use Rattle.threads_model.specs.Instructions.{Hand, free, begun, loaded, knows, claims, looks, labels, marks, ends, Ticked, tick}
+use Rattle.model.specs.{declared.Op.Op, Tables.{Queue, taskAt, marked, started}, Refusals.late, Calls.act}
+use Rattle.model.proofs.{tests.Truth.{either, split, not-both}, unsound.StartSafe.Room}
+use Rattle.threads_model.specs.{Turns.{takeEarly, finalTurns}, Instructions.Ticked}
+use Rattle.threads_model.specs.Instructions.{Hand, free, begun, loaded, knows, claims, looks, labels, marks, ends, tick}
 use Rattle.threads_model.specs.Crew.{Crew, next, withHand, ticked, go, asTurns, turnsOf}
 use Rattle.threads.proofs.lists.TagRoom.{Roomy, act-roomy, early-room, early-roomy, fewer-roomy, turn-roomy}
-use Rattle.threads.proofs.follow.Good.{Good, good-act}
-use Rattle.threads.proofs.follow.LateStays.{LateAfter, isClaims, tick-left}
+use Rattle.threads.proofs.follow.{Good.{Good, good-act}, LateStays.{LateAfter, isClaims, tick-left}}
 use Rattle.threads.proofs.follow.Starting.{claims-is}
 
 -- Pushes that have passed 33 and had no turn yet.

@@ -1,18 +1,14 @@
 -- The instructions of a start, by what they look at.
-use mathlib.Core.Path.{_≡_, refl}
-use mathlib.Core.Bool.{true, false, not, cond}
-use mathlib.Core.List.{[], _∷_}
+use mathlib.Core.{Path.{_≡_, refl}, Bool.{true, false, not, cond}, List.{[], _∷_}}
 use Prim.Native.Nat.{ℕ}
 use lib.Dec.{eqb}
-use Rattle.model.specs.declared.{Call.Call, Record.Record, Op.Op}
-use Rattle.model.specs.declared.Answer.the-variants.{Running}
-use Rattle.model.specs.declared.Outcome.the-variants.{Refused, Moved}
-use Rattle.model.specs.declared.Op.the-variants.{Push, Pop, PushPooled}
+use Rattle.model.specs.{declared.{Call.Call, Record.Record, Op.{Op, the-variants.{Push, Pop, PushPooled}}}, Sound.from1}
+use Rattle.model.specs.{declared.{Answer.the-variants.Running, Outcome.the-variants.{Refused, Moved}}, Refusals.late}
 use Rattle.model.specs.Tables.{Tables, marked, withMark, withMarks, withCall, started, asking}
-use Rattle.model.specs.{Sound.from1, Refusals.late}
 use Rattle.model.proofs.tests.Truth.{split}
 use Rattle.threads_model.specs.Starts.{names, pops, puts, ownRefusal, planStart, settleStart}
-use Rattle.threads_model.specs.Instructions.{Hand, claims, looks, labels, ends, Ticked, quiet, decided, startFirst, claimsMark, looksMark}
+use Rattle.threads_model.specs.Instructions.{Hand, claims, looks, labels, ends, Ticked, quiet, decided, startFirst}
+use Rattle.threads_model.specs.Instructions.{claimsMark, looksMark}
 
 -- A pop, or a push that names no slot: refused by its own numbers and record, refused 33, or carried out.
 abbrev pub plainStart : Tables → Record → Op → ℕ → Call → ℕ → Ticked
@@ -47,11 +43,11 @@ module _ (q : Tables) (r : Record) where
         (λ e. split (late (q .control)) (λ l. rw (e, l)) (λ l. rw (e, l)))
         (λ e. rw e)
 
-    pub first-put : (side label : ℕ)
+    pub first-push-pooled : (side label : ℕ)
         → startFirst pooled slots q r (PushPooled side label) (puts side label)
         ≡ plainStart q r (PushPooled side label) (ownRefusal pooled slots (r .call) side (not (eqb pooled 1)) false) (asking side label) 12
     unfolding startFirst planStart settleStart
-    first-put side label =
+    first-push-pooled side label =
         split (eqb (ownRefusal pooled slots (r .call) side (not (eqb pooled 1)) false) 0)
         (λ e. split (late (q .control)) (λ l. rw (e, l)) (λ l. rw (e, l)))
         (λ e. rw e)

@@ -1,34 +1,27 @@
 -- The instructions of a start.
-use mathlib.Core.Path.{_≡_, refl, ap, sym, subst, _∙_}
-use mathlib.Core.Bool.{Bool, true, false, not, cond}
+use mathlib.Core.{Path.{_≡_, refl, ap, sym, subst, _∙_}, Bool.{Bool, true, false, not, cond}}
 use Prim.Native.Nat.{ℕ, _<_, _/_}
 use native.Mathlib.Omega.{arith}
 use lib.{Dec.eqb, ListN.length-set, Seq.getD-set-other}
 use borrow.Author.Tests.{eqb-true, eq-eqb, not-false}
-use Rattle.model.specs.declared.{Call.Call, Record.Record, Op.Op, Asked.Asked}
-use Rattle.model.specs.declared.Op.the-variants.{Push, Pop, PushPooled}
-use Rattle.model.specs.Tables.{Tables, Queue, taskAt, recordAt, marked, withMark, withMarks, withCall, started, asking, withTaken}
-use Rattle.model.specs.Sound.{from1}
-use Rattle.model.specs.Refusals.{among, late, namedPush, pooledPush, nothingAsked, pushRefusal}
-use Rattle.model.specs.Calls.{Acted, act, actOn, back, decide, pushStart, popStart, putStart}
-use Rattle.model.specs.declared.Outcome.the-variants.{Refused, Moved}
-use Rattle.model.specs.declared.Answer.the-variants.{Running}
-use Rattle.model.proofs.tests.Rules.{cleared}
-use Rattle.model.proofs.tests.Truth.{split, by-test, not-both}
-use Rattle.model.proofs.bridge.Facts.{from1-true}
-use Rattle.threads_model.specs.Turns.{actEarly, takeEarly}
-use Rattle.threads_model.specs.Starts.{ownRules, ownRefusal, names, pops, puts}
-use Rattle.threads_model.specs.Instructions.{Hand, claims, looks, labels, ends, Ticked, startFirst, claimsMark, looksMark}
-use Rattle.threads_model.specs.Crew.{Crew}
-use Rattle.threads.specs.Promises.{OwesLabel}
-use Rattle.threads.proofs.follow.Starting.{plainStart, namedOwn, first-pop, first-put, first-push, claims-is, looks-is}
+use Rattle.model.specs.declared.{Call.Call, Record.Record, Op.{Op, the-variants.{Push, Pop, PushPooled}}, Asked.Asked}
+use Rattle.model.specs.{declared.{Outcome.the-variants.{Refused, Moved}, Answer.the-variants.Running}, Tables.withTaken}
+use Rattle.model.specs.Tables.{Tables, Queue, taskAt, recordAt, marked, withMark, withMarks, withCall, started, asking}
+use Rattle.model.specs.{Sound.from1, Refusals.{among, late, namedPush, pooledPush, nothingAsked, pushRefusal}}
+use Rattle.model.specs.Calls.{Acted, act, actOn, back, decide, pushStart, popStart, pushPooledStart}
+use Rattle.model.proofs.{tests.{Rules.cleared, Truth.{split, by-test, not-both}}, bridge.Facts.from1-true}
 use Rattle.model.proofs.unsound.StartSafe.{Room}
+use Rattle.threads_model.specs.{Turns.{actEarly, takeEarly}, Starts.{ownRules, ownRefusal, names, pops, puts}}
+use Rattle.threads_model.specs.Instructions.{Hand, claims, looks, labels, ends, Ticked, startFirst, claimsMark}
+use Rattle.threads_model.specs.{Instructions.looksMark, Crew.Crew}
+use Rattle.threads.specs.Promises.{OwesLabel}
+use Rattle.threads.proofs.follow.Starting.{plainStart, namedOwn, first-pop, first-push-pooled, first-push}
+use Rattle.threads.proofs.follow.{Starting.{claims-is, looks-is}, Good.Good}
+use Rattle.threads.proofs.follow.Relation.{Holds, Moment, Sim, none, one}
 use Rattle.threads.proofs.follow.Good as own
-use Rattle.threads.proofs.follow.Good.{Good}
 use Rattle.threads.proofs.follow.Instruction as I
 use Rattle.threads.proofs.follow.Clean as C
 use Rattle.threads.proofs.follow.Relation as R
-use Rattle.threads.proofs.follow.Relation.{Holds, Moment, Sim, none, one}
 
 -- Refusals in their order.
 module _ (own : ℕ) (q : Tables) (r : Record) (done : Acted) where
@@ -131,10 +124,10 @@ module _ (now : Moment) where
         (ap (λ (x : Record). ownRefusal pooled slots (x .call) side false false) (sym (c .reads)))
         (λ (x : Record). record { tables = G; task = withCall x (started 1 side 0 0); outcome = Moved (Running 1) }) (Pop side) refl))
 
-    pub put-goal : (side label : ℕ) → Goal k₀ (startFirst pooled slots T r (PushPooled side label) (puts side label))
-    unfolding act actOn putStart
-    put-goal side label =
-        subst (Goal k₀) (sym (first-put T r pooled slots side label))
+    pub push-pooled-goal : (side label : ℕ) → Goal k₀ (startFirst pooled slots T r (PushPooled side label) (puts side label))
+    unfolding act actOn pushPooledStart
+    push-pooled-goal side label =
+        subst (Goal k₀) (sym (first-push-pooled T r pooled slots side label))
         (plain-goal (PushPooled side label) (ownRefusal pooled slots (r .call) side (not (eqb pooled 1)) false) (asking side label) 12
         (start-is side (pooledPush G) (ownRefusal pooled slots (r .call) side (not (eqb pooled 1)) false)
         (λ i. ownRefusal pooled slots (sym (c .reads) i .call) side (not (eqb (g .pool i) 1)) false)

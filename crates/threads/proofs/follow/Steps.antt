@@ -1,35 +1,26 @@
 -- The instructions of a step, by its touch.
-use mathlib.Core.Path.{_≡_, refl, ap, sym, subst, _∙_}
-use mathlib.Core.Bool.{Bool, true, false, cond}
-use mathlib.Core.List.{List, [], _∷_}
+use mathlib.Core.{Path.{_≡_, refl, ap, sym, subst, _∙_}, Bool.{Bool, true, false, cond}, List.{List, [], _∷_}}
 use Prim.Native.Nat.{ℕ, _<_, _≤_, _/_}
 use native.Mathlib.Omega.{arith}
-use lib.{Dec.eqb, Seq.getD-set-other, Seq.set-getD}
-use lib.ListN.{length, getD, set, length-set}
+use lib.{Dec.eqb, Seq.{getD-set-other, set-getD}, ListN.{length, getD, set, length-set}}
 use borrow.Author.Tests.{eqb-true}
-use Rattle.model.specs.declared.{Control.Control, Record.Record}
-use Rattle.model.specs.declared.Op.the-variants.{Step}
-use Rattle.model.specs.Tables.{Tables, Queue, taskAt, recordAt, marked, linked, withMark, withMarks, withHead, withNext, withTaken}
-use Rattle.model.specs.{Places.row, Sides.links, Sound.linkSound}
-use Rattle.model.specs.Calls.{Acted, act, back}
-use Rattle.model.proofs.tests.Truth.{by-test, split, and-true, not-both}
+use Rattle.model.specs.{declared.{Control.Control, Record.Record, Op.the-variants.Step}, Tables.withTaken, Places.row}
+use Rattle.model.specs.Tables.{Tables, Queue, taskAt, recordAt, marked, linked, withMark, withMarks, withHead, withNext}
+use Rattle.model.specs.{Sides.links, Sound.linkSound, Calls.{Acted, act, back}}
+use Rattle.model.proofs.{tests.Truth.{by-test, split, and-true, not-both}, invariant.Owners.{Owner, held}}
 use Rattle.model.proofs.bridge.{Marks.marked-other, Facts.from1-true}
-use Rattle.model.proofs.invariant.Owners.{Owner, held}
-use Rattle.threads_model.specs.Split.{plan, perform, settle, splitStep, Touched, Settled, onRow}
-use Rattle.threads_model.specs.declared.PlannedTouch.{PlannedTouch}
-use Rattle.threads.proofs.split.Within.{plans-within}
-use Rattle.threads_model.specs.Instructions.{Hand, loaded, knows, labels, ends, Ticked, quiet, decided}
-use Rattle.threads_model.specs.Instructions.{putInto, isToPut, isAsRead, loadsOwn, putsOwn, readsNext, atOnce, oneWord, replaces, stepFirst, clears}
-use Rattle.threads_model.specs.Crew.{Crew}
+use Rattle.threads_model.specs.{Split.{plan, perform, settle, splitStep, Touched, Settled, onRow}, Crew.Crew}
+use Rattle.threads_model.specs.{declared.PlannedTouch.PlannedTouch, Instructions.stepFirst}
+use Rattle.threads_model.specs.Instructions.{Hand, loaded, knows, labels, ends, Ticked, quiet, decided, putInto, atOnce}
+use Rattle.threads_model.specs.Instructions.{isToPut, isAsRead, loadsOwn, putsOwn, readsNext, oneWord, replaces, clears}
+use Rattle.threads.proofs.{split.Within.plans-within, follow.Relation.{Holds, Moment, Sim, none, one}}
+use Rattle.threads.proofs.follow.Overlay.{overlay, Over, over, perform5, perform6, perform9, perform11}
+use Rattle.threads.proofs.follow.{Overlay.linked-same, Plans.{says, settle14}, Good.Good}
 use Rattle.threads.specs.Promises.{OwesLabel, OwesMark}
-use Rattle.threads.proofs.follow.Overlay.{overlay, Over, over, perform5, perform6, perform9, perform11, linked-same}
-use Rattle.threads.proofs.follow.Plans.{says, settle14}
 use Rattle.threads.proofs.follow.Good as own
-use Rattle.threads.proofs.follow.Good.{Good}
 use Rattle.threads.proofs.follow.Instruction as I
 use Rattle.threads.proofs.follow.Clean as C
 use Rattle.threads.proofs.follow.Relation as R
-use Rattle.threads.proofs.follow.Relation.{Holds, Moment, Sim, none, one}
 
 module _ (now : Moment) where
   abbrev tasks : ℕ

@@ -1,28 +1,20 @@
 -- Every instruction: the stores that are owed are in the list already; the others are in Steps and Starts.
-use mathlib.Core.Path.{_≡_, refl, ap, sym, subst, _∙_}
-use mathlib.Core.Bool.{Bool, true, false}
-use mathlib.Core.List.{[], _∷_, _++_}
+use mathlib.Core.{Path.{_≡_, refl, ap, sym, subst, _∙_}, Bool.{Bool, true, false}, List.{[], _∷_, _++_}}
 use Prim.Native.Nat.{ℕ, _<_, _≤_, _/_}
 use native.Mathlib.Omega.{arith}
-use lib.Dec.{eqb}
-use lib.ListN.{length, getD, set, length-set}
-use lib.Seq.{getD-set-same, getD-set-other}
+use lib.{Dec.eqb, ListN.{length, getD, set, length-set}, Seq.{getD-set-same, getD-set-other}}
 use borrow.Author.Tests.{eqb-true, eqb-false}
-use Rattle.model.specs.declared.{Record.Record, Outcome.Outcome}
-use Rattle.model.specs.declared.Op.the-variants.{Push, Pop, PushPooled, Step}
+use Rattle.model.specs.declared.{Record.Record, Outcome.Outcome, Op.the-variants.{Push, Pop, PushPooled, Step}}
 use Rattle.model.specs.Tables.{Tables, Queue, taskAt, marked, withMark, withMarks, started}
-use Rattle.model.proofs.tests.Truth.{split, not-both}
-use Rattle.model.proofs.bridge.Marks.{marked-same, marked-other}
-use Rattle.threads_model.specs.Instructions.{Hand, free, begun, loaded, knows, claims, looks, labels, marks, ends, Ticked, quiet}
-use Rattle.threads_model.specs.Instructions.{withLabels, tick, written, toldAtEnd}
-use Rattle.threads_model.specs.Crew.{Crew, owed}
-use Rattle.threads.specs.Promises.{recordOf, OwesLabel, OwesMark}
-use Rattle.threads.proofs.follow.{LateStays.Late, Good.Good}
+use Rattle.model.proofs.{tests.Truth.{split, not-both}, bridge.Marks.{marked-same, marked-other}}
 use Rattle.model.proofs.unsound.StartSafe.{Room}
+use Rattle.threads_model.specs.Instructions.{Hand, free, begun, loaded, knows, claims, looks, labels, marks, ends, tick}
+use Rattle.threads_model.specs.{Instructions.{Ticked, quiet, withLabels, written, toldAtEnd}, Crew.{Crew, owed}}
+use Rattle.threads.specs.Promises.{recordOf, OwesLabel, OwesMark}
+use Rattle.threads.proofs.follow.{LateStays.Late, Good.Good, Relation.{Extra, Holds, Moment, Sim}}
 use Rattle.threads.proofs.follow.Good as own
 use Rattle.threads.proofs.follow.Instruction as I
 use Rattle.threads.proofs.follow.Relation as R
-use Rattle.threads.proofs.follow.Relation.{Extra, Holds, Moment, Sim}
 use Rattle.threads.proofs.follow.Steps as S
 use Rattle.threads.proofs.follow.Starts as B
 
@@ -167,7 +159,7 @@ module _ (now : Moment) where
       side slot label
   tick-goal (begun (Pop side)) at y w = B.pop-goal now (begun (Pop side))
       (record { at = at; owes = refl; tells = refl; writes = refl; reads = as-listed (begun (Pop side)) at; labels = λ x z. z; marks = λ x z. z }) side
-  tick-goal (begun (PushPooled side label)) at y w = B.put-goal now (begun (PushPooled side label))
+  tick-goal (begun (PushPooled side label)) at y w = B.push-pooled-goal now (begun (PushPooled side label))
       (record { at = at; owes = refl; tells = refl; writes = refl; reads = as-listed (begun (PushPooled side label)) at; labels = λ x z. z; marks = λ x z. z })
       side label
   tick-goal (begun Step) at y w = S.step-goal now (begun Step)

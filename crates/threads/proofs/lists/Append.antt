@@ -1,15 +1,10 @@
 -- Lists of turns one behind the other: the queue, a thread's outcomes, and that none is 34.
-use mathlib.Core.Path.{_≡_, refl, ap, sym, subst, _∙_}
-use mathlib.Core.Bool.{Bool, false, cond}
-use mathlib.Core.List.{List, [], _∷_, _++_}
+use mathlib.Core.{Path.{_≡_, refl, ap, sym, subst, _∙_}, Bool.{Bool, false, cond}, List.{List, [], _∷_, _++_}}
 use Prim.Native.Nat.{ℕ}
 use lib.Dec.{eqb}
-use Rattle.model.specs.declared.{Outcome.Outcome, Op.Op}
-use Rattle.model.specs.declared.Outcome.the-variants.{Refused}
-use Rattle.model.specs.{Tables.Queue, History.Event, Lists.All}
-use Rattle.model.proofs.tests.Truth.{split}
-use Rattle.threads_model.specs.Turns.{Turn, takeEarly, runTurns, finalTurns}
-use Rattle.threads_model.specs.Crew.{asTurns, outcomesOf}
+use Rattle.model.specs.{declared.{Outcome.{Outcome, the-variants.Refused}, Op.Op}, Tables.Queue, History.Event}
+use Rattle.model.{specs.Lists.All, proofs.tests.Truth.split}
+use Rattle.threads_model.specs.{Turns.{Turn, takeEarly, runTurns, finalTurns}, Crew.{asTurns, outcomesOf}}
 
 pub assoc : (a b c : List Outcome) → (a ++ b) ++ c ≡ a ++ (b ++ c)
 assoc [] b c = refl

@@ -1,29 +1,19 @@
 -- A push of which 33 was asked before its turn keeps the invariant and the ledger; so lists with such pushes are linearized.
-use mathlib.Core.Path.{_≡_, refl, ap, sym, _∙_}
-use mathlib.Core.Bool.{Bool, true, false, _&&_, _||_, not, cond}
+use mathlib.Core.{Path.{_≡_, refl, ap, sym, _∙_}, Bool.{Bool, true, false, _&&_, _||_, not, cond}}
 use mathlib.Core.List.{List, [], _∷_, _++_}
 use Prim.Native.Nat.{ℕ, suc, _≤_, _/_, _%_}
 use native.Mathlib.Omega.{arith}
-use lib.Dec.{eqb, leb, ltb}
-use lib.ListN.{getD, length, length-set}
+use lib.{Dec.{eqb, leb, ltb}, ListN.{getD, length, length-set}}
 use borrow.Author.Tests.{eqb-true, eqb-false, leb-true, not-false, not-true}
-use Rattle.model.specs.declared.Answer.the-variants.{Running}
-use Rattle.model.specs.declared.Outcome.the-variants.{Moved}
-use Rattle.model.specs.declared.Op.{Op}
-use Rattle.model.specs.declared.Op.the-variants.{Push, Pop, PushPooled, Step}
+use Rattle.model.specs.{declared.{Answer.the-variants.Running, Outcome.the-variants.Moved}, Refusals.startRules}
+use Rattle.model.specs.{declared.Op.{Op, the-variants.{Push, Pop, PushPooled, Step}}, Calls.{Acted, Done, act, back}}
 use Rattle.model.specs.Tables.{Tables, Queue, isPooled, marked, putBit, recordAt, taskAt, withTaken, withCall, started}
-use Rattle.model.specs.Sound.{from1, controlSound, recordSound, rowsFit}
-use Rattle.model.specs.Refusals.{Rule, rule, first, among, fits, isBusy, late, namedPush, pushRefusal, startRefusal, startRules}
-use Rattle.model.specs.Calls.{Acted, Done, act, back}
-use Rattle.model.specs.History.{Event, Ledger, ledgerFrom, note}
-use Rattle.model.specs.Lists.{All, every}
-use Rattle.model.proofs.tests.Truth.{and-true, by-test, either}
-use Rattle.model.proofs.tests.Rules.{_and_, never}
+use Rattle.model.specs.{Sound.{from1, controlSound, recordSound, rowsFit}, History.{Event, Ledger, ledgerFrom, note}}
+use Rattle.model.specs.Refusals.{Rule, rule, first, among, fits, isBusy, late, namedPush, pushRefusal, startRefusal}
+use Rattle.model.{specs.Lists.{All, every}, proofs.tests.{Truth.{and-true, by-test, either}, Rules.{_and_, never}}}
+use Rattle.model.proofs.bridge.{Accepted.{Lies, lies}, Facts.from1-true}
+use Rattle.model.proofs.ledger.{EveryOperation.{act-good, push-good}, Matched.Matched}
 use Rattle.model.proofs.laws.Sizes as sizes
-use Rattle.model.proofs.bridge.Accepted.{Lies, lies}
-use Rattle.model.proofs.bridge.Facts.{from1-true}
-use Rattle.model.proofs.ledger.EveryOperation.{act-good, push-good}
-use Rattle.model.proofs.ledger.Matched.{Matched}
 use Rattle.threads_model.specs.Turns.{Turn, actEarly, takeEarly, runTurns, finalTurns}
 use Rattle.threads.specs.Promises.{EarlyAsEver}
 

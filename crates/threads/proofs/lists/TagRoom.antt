@@ -1,36 +1,25 @@
 -- Anchor's tag has room for the changes still to come, if a push that has passed 33 and had no turn yet counts as one that owes two.
-use mathlib.Core.Path.{_≡_, refl, ap, sym, subst, fun-ext, _∙_}
-use mathlib.Core.Bool.{Bool, true, false, cond}
-use mathlib.Core.List.{List}
+use mathlib.Core.{Path.{_≡_, refl, ap, sym, subst, fun-ext, _∙_}, Bool.{Bool, true, false, cond}, List.List}
 use mathlib.Core.Logic.{_≢_, _⊎_, inl, inr}
 use Prim.Native.Nat.{ℕ, _+_, _<_, _≤_}
 use native.Mathlib.Omega.{arith}
 use lib.Dec.{eqb}
 use borrow.Author.Tests.{eqb-true, eq-eqb, ne-eqb, ltb-false}
 use Rattle.word.specs.Anchor.{anchorOf}
-use Rattle.model.specs.declared.{Call.Call, Record.Record, Op.Op}
-use Rattle.model.specs.declared.Op.the-variants.{Push, Pop, PushPooled, Step}
-use Rattle.model.specs.declared.Outcome.the-variants.{Refused}
-use Rattle.model.specs.Tables.{Tables, Queue, recordAt, started, taskAt, unused, withCall}
-use Rattle.model.specs.{Sound.controlSound, History.Ledger}
-use Rattle.model.specs.Places.{move, wordFound}
-use Rattle.model.specs.Refusals.{among, late, popRefusal, pushRefusal, putRefusal, stepRefusal}
-use Rattle.model.specs.Calls.{Acted, Done, act, actOn, back, finish, popStart, pushStart, putStart, step}
-use Rattle.model.proofs.tests.Truth.{by-test, decide-eq, not-both, split}
-use Rattle.model.proofs.lists.Store.{set-back}
-use Rattle.model.proofs.machine.Laws.{upd-other, upd-same}
-use Rattle.model.proofs.machine.Machine as M
-use Rattle.model.proofs.machine.Machine.{upd}
-use Rattle.model.proofs.invariant.Tags.{cost, weight}
-use Rattle.model.proofs.bridge.Accepted.{Lies, pop-accepted, push-accepted, put-accepted, step-accepted}
-use Rattle.model.proofs.bridge.{Decoded.seenMove, Facts.control-fine, Stores.touched-tasks}
-use Rattle.model.proofs.bridge.Operations.{put-back, state-is, task-of}
-use Rattle.model.proofs.bridge.View.{recOf, stateOf, view}
-use Rattle.model.proofs.ledger.Matched.{Matched}
+use Rattle.model.specs.declared.{Call.Call, Record.Record, Op.{Op, the-variants.{Push, Pop, PushPooled, Step}}}
+use Rattle.model.specs.{declared.Outcome.the-variants.Refused, Sound.controlSound, History.Ledger}
+use Rattle.model.specs.{Tables.{Tables, Queue, recordAt, started, taskAt, unused, withCall}, Places.{move, wordFound}}
+use Rattle.model.specs.Refusals.{among, late, popRefusal, pushRefusal, pushPooledRefusal, stepRefusal}
+use Rattle.model.specs.Calls.{Acted, Done, act, actOn, back, finish, popStart, pushStart, pushPooledStart, step}
+use Rattle.model.proofs.{tests.Truth.{by-test, decide-eq, not-both, split}, lists.Store.set-back}
+use Rattle.model.proofs.{machine.{Laws.{upd-other, upd-same}, Machine.upd}, invariant.Tags.{cost, weight}}
+use Rattle.model.proofs.bridge.Accepted.{Lies, pop-accepted, push-accepted, push-pooled-accepted, step-accepted}
+use Rattle.model.proofs.bridge.{Decoded.seenMove, Facts.control-fine, Stores.touched-tasks, View.{recOf, stateOf, view}}
+use Rattle.model.proofs.{bridge.Operations.{put-back, state-is, task-of}, ledger.Matched.Matched}
 use Rattle.model.proofs.tags.AnchorTag.{WeightKept, cost-small, unsettled-small}
 use Rattle.model.proofs.tags.Sum.{total, total-keep, total-le, total-upd}
-use Rattle.model.proofs.unsound.{Safe.Safe, StartSafe.Room}
-use Rattle.model.proofs.unsound.StepSound.{weight-kept, seen, stepping}
+use Rattle.model.proofs.unsound.{Safe.Safe, StartSafe.Room, StepSound.{weight-kept, seen, stepping}}
+use Rattle.model.proofs.machine.Machine as M
 use Rattle.threads_model.specs.Turns.{actEarly, takeEarly}
 use Rattle.threads.proofs.lists.EarlyPush.{pushed, waited}
 
@@ -92,8 +81,8 @@ module _ (n : ℕ) (q : Queue) (l : Ledger) (g : Matched n q l) (s : Safe q) (t 
     abbrev m : M.Move
     m = seenMove G (recordAt q t)
 
-    light : WeightKept (view G) (stateOf q .task t) m
-    light =
+    keeps-weight : WeightKept (view G) (stateOf q .task t) m
+    keeps-weight =
         subst (λ (x : M.Rec). WeightKept (view G) x m) (sym (task-of q t (z .known)))
         (subst (WeightKept (view G) (recOf (recordAt q t))) (seen n q l g s t z busy) (weight-kept n q l g s t z busy))
 
@@ -114,19 +103,19 @@ module _ (n : ℕ) (q : Queue) (l : Ledger) (g : Matched n q l) (s : Safe q) (t 
         subst (λ (k : ℕ). Fits early k (stateOf (back q t (finish G (taskAt q t) (move (G .control) (recordAt q t) (wordFound G (recordAt q t)))) .queue)))
         (sym (touched-tasks (move (G .control) (recordAt q t) (wordFound G (recordAt q t)) .touch) G))
         (subst (Fits early (G .control .tasks)) (sym (state-is q (g .book) (g .inv) (g .links) t (stepping n q l g s t z busy)))
-        (let a = light .less in let b = swaps in omega (arith, a, b, r)))
+        (let a = keeps-weight .less in let b = swaps in omega (arith, a, b, r)))
 
   pub act-roomy : (o : Op) → Roomy early (act q t o .queue)
-  unfolding act actOn pushStart putStart popStart step
+  unfolding act actOn pushStart pushPooledStart popStart step
   act-roomy (Push side x y) = by-test After (eqb (pushRefusal G (among q t) (recordAt q t) side x) 0)
       (λ e. early-roomy early (back q t (pushed q t side x y) .queue) (s .control) (push-accepted q t side x (eqb-true _ _ e) .starting .early))
       (λ _. refused (pushRefusal G (among q t) (recordAt q t) side x))
   act-roomy (Pop side) = by-test After (eqb (popRefusal G (among q t) (recordAt q t) side) 0)
       (λ e. early-roomy early _ (s .control) (pop-accepted q t side (eqb-true _ _ e) .early))
       (λ _. refused (popRefusal G (among q t) (recordAt q t) side))
-  act-roomy (PushPooled side y) = by-test After (eqb (putRefusal G (among q t) (recordAt q t) side) 0)
-      (λ e. early-roomy early _ (s .control) (put-accepted q t side (eqb-true _ _ e) .0 .early))
-      (λ _. refused (putRefusal G (among q t) (recordAt q t) side))
+  act-roomy (PushPooled side y) = by-test After (eqb (pushPooledRefusal G (among q t) (recordAt q t) side) 0)
+      (λ e. early-roomy early _ (s .control) (push-pooled-accepted q t side (eqb-true _ _ e) .0 .early))
+      (λ _. refused (pushPooledRefusal G (among q t) (recordAt q t) side))
   act-roomy Step = by-test After (eqb (stepRefusal G (among q t) (recordAt q t)) 0)
       (λ e. let a = step-accepted q t (eqb-true _ _ e) in stepped (a .lies) (a .busy))
       (λ _. refused (stepRefusal G (among q t) (recordAt q t)))

@@ -1,25 +1,21 @@
 -- At each place plan, touch and settlement are the model's step there.
-use mathlib.Core.Path.{_≡_, refl, sym, subst}
-use mathlib.Core.Bool.{Bool, true, false, cond}
+use mathlib.Core.{Path.{_≡_, refl, sym, subst}, Bool.{Bool, true, false, cond}}
 use Prim.Native.Nat.{ℕ, suc, _≤_}
 use native.Mathlib.Omega.{arith}
-use lib.Dec.{eqb, leb}
-use lib.ListN.{getD}
+use lib.{Dec.{eqb, leb}, ListN.getD}
 use borrow.Author.Tests.{eqb-true, eqb-false}
 use Rattle.word.specs.Anchor.{anchorOf}
-use Rattle.model.specs.declared.{Control.Control, Call.Call}
-use Rattle.model.specs.Tables.{Tables, isPooled, atPlace, withOwn}
-use Rattle.model.specs.Sound.{from1, anchorSound, linkSound}
-use Rattle.model.specs.Places.{row, noneLeft, raised, move, at12, at13, at14, at15, at16, at17}
-use Rattle.model.specs.{Refusals.stepSound, Calls.finish}
-use Rattle.model.specs.Route.{route, pushRoute, popRoute}
-use Rattle.model.proofs.tests.Truth.{split}
+use Rattle.model.specs.{declared.{Control.Control, Call.Call}, Tables.{Tables, isPooled, atPlace, withOwn}}
+use Rattle.model.specs.{Sound.{from1, anchorSound, linkSound}, Refusals.stepSound, Calls.finish}
+use Rattle.model.specs.Places.{row, stackEmpty, raised, move, at12, at13, at14, at15, at16, at17}
+use Rattle.model.{specs.Route.{route, pushRoute, popRoute}, proofs.tests.Truth.split}
 use Rattle.places.specs.Arm.{stepAt}
 use Rattle.decide.proofs.Routes.{Quiet}
 use Rattle.threads.proofs.split.Touches as touches
-use Rattle.threads_model.specs.Split.{loadsHead, swapsHead, drawsSlot, knowing, loads, planned, perform, gone, settledAt, meetsAnchor}
-use Rattle.threads.proofs.split.EarlyPlaces as E
-use Rattle.threads.proofs.split.Settlement.{hush, told, change-splits}
+use Rattle.threads_model.specs.Split.{loadsHead, swapsHead, drawsSlot, knowing, loads, planned, perform, gone}
+use Rattle.threads_model.specs.Split.{settledAt, meetsAnchor}
+use Rattle.threads.proofs.split.DequePlaces as E
+use Rattle.threads.proofs.split.Settlement.{any-entry, told, change-splits}
 
 module _ (q : Tables) (k : ℕ) where
   abbrev c : Control
@@ -47,7 +43,7 @@ module _ (q : Tables) (k : ℕ) where
     unfolding planned loads perform meetsAnchor settledAt gone stepAt stepSound move at12 finish
     split12 =
         split (linkSound (c .slots) (c .head))
-        (λ l. rw l (told _ _ (hush _ _ _ _ (done12 (noneLeft (c .head))))))
+        (λ l. rw l (told _ _ (any-entry _ _ _ _ (done12 (stackEmpty (c .head))))))
         (λ l. rw l)
 
     done13 : Quiet (route 13 (r .kind) 0)
@@ -58,7 +54,7 @@ module _ (q : Tables) (k : ℕ) where
     unfolding planned loads perform meetsAnchor settledAt gone stepAt stepSound move at13 finish
     split13 =
         split (leb (getD (q .next) (row (atPlace r 13)) 0) (c .slots))
-        (λ l. rw l (told _ _ (hush _ _ _ _ done13)))
+        (λ l. rw l (told _ _ (any-entry _ _ _ _ done13)))
         (λ l. rw l)
 
     done14 : (b : Bool) → Quiet (route 14 (r .kind) (cond b 0 1))
@@ -72,7 +68,7 @@ module _ (q : Tables) (k : ℕ) where
         E.by-touch q k sound r 14 (touches.touch14 r (c .pooled) (c .slots))
         (change-splits q k s (touches.draw14 r) (withOwn s (row s) (r .label)) s 1 (c .head) (r .link)
         (drawsSlot (r .link) (raised s (r .neighbour)) (row s) (r .label)) loadsHead refl refl
-        refl refl (hush _ _ _ _ (done14 true)) (hush _ _ _ _ (done14 false)))
+        refl refl (any-entry _ _ _ _ (done14 true)) (any-entry _ _ _ _ (done14 false)))
 
     done15 : Quiet (route 15 (r .kind) 0)
     unfolding route pushRoute popRoute
@@ -82,7 +78,7 @@ module _ (q : Tables) (k : ℕ) where
     unfolding planned loads perform meetsAnchor settledAt gone stepAt stepSound move at15 finish
     split15 =
         split (linkSound (c .slots) (c .head))
-        (λ l. rw l (told _ _ (hush _ _ _ _ done15)))
+        (λ l. rw l (told _ _ (any-entry _ _ _ _ done15)))
         (λ l. rw l)
 
     done16 : Quiet (route 16 (r .kind) 0)
@@ -91,7 +87,7 @@ module _ (q : Tables) (k : ℕ) where
 
     split16 : E.Splits q k (atPlace r 16)
     unfolding planned loads perform meetsAnchor settledAt gone stepAt stepSound move at16 finish
-    split16 = told _ _ (hush _ _ _ _ done16)
+    split16 = told _ _ (any-entry _ _ _ _ done16)
 
     split17 : E.Splits q k (atPlace r 17)
     unfolding loads perform meetsAnchor settledAt stepAt stepSound move at17

@@ -1,15 +1,12 @@
 -- The plan of a record that is refused, idle or sound.
-use mathlib.Core.Path.{_≡_, ap, sym, _∙_}
-use mathlib.Core.{Bool.true, List.[]}
+use mathlib.Core.{Path.{_≡_, ap, sym, _∙_}, Bool.true, List.[]}
 use Prim.Native.Nat.{ℕ, _≤_}
 use lib.Dec.{eqb}
 use borrow.Author.Tests.{eq-eqb, ne-eqb}
-use Rattle.model.specs.declared.Call.{Call}
-use Rattle.model.specs.Tables.{tablesOf, atPlace, counting}
-use Rattle.model.specs.{Sound.recordSound, Refusals.recordRefusal}
+use Rattle.model.specs.{declared.Call.Call, Tables.{tablesOf, atPlace, counting}, Sound.recordSound}
+use Rattle.model.specs.Refusals.{recordRefusal}
 use Rattle.engine.proofs.InParts.{placed, below-18}
-use Rattle.threads_model.specs.declared.PlannedTouch.{PlannedTouch}
-use Rattle.threads_model.specs.Split.{knowing, refuses, planned, plan}
+use Rattle.threads_model.specs.{declared.PlannedTouch.PlannedTouch, Split.{knowing, refuses, planned, plan}}
 
 module _ (pooled slots : ℕ) (r : Call) where
   abbrev why : ℕ

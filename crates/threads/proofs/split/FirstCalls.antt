@@ -1,18 +1,13 @@
 -- The record that a start writes is sound.
-use mathlib.Core.Path.{_≡_, refl, ap, sym, _∙_}
-use mathlib.Core.Bool.{Bool, true, false, not, cond}
+use mathlib.Core.{Path.{_≡_, refl, ap, sym, _∙_}, Bool.{Bool, true, false, not, cond}}
 use Prim.Native.Nat.{ℕ}
 use native.Mathlib.Omega.{arith}
 use lib.Dec.{eqb, leb}
 use borrow.Author.Tests.{le-leb, not-false}
 use Rattle.word.specs.Anchor.{anchorOf}
-use Rattle.model.specs.declared.Call.{Call}
-use Rattle.model.specs.Tables.{newCall, started, asking}
-use Rattle.model.specs.Sound.{from1, anchorSound, linkSound, recordSound}
-use Rattle.model.proofs.tests.Truth.{split}
-use Rattle.model.proofs.tests.Rules.{cleared}
-use Rattle.threads_model.specs.declared.Start.{Start}
-use Rattle.threads_model.specs.Starts.{ownRules, ownRefusal, wrongPush, outside, firstCall}
+use Rattle.model.specs.{declared.Call.Call, Tables.{newCall, started, asking}}
+use Rattle.model.{specs.Sound.{from1, anchorSound, linkSound, recordSound}, proofs.tests.{Truth.split, Rules.cleared}}
+use Rattle.threads_model.specs.Starts.{ownRules, ownRefusal, wrongPush, outside}
 use Rattle.threads.specs.Promises.{StartsSound}
 use Rattle.threads.proofs.split.SoundFields as F
 

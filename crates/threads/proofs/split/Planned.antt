@@ -1,19 +1,15 @@
 -- What each place asks, in the terms of the code.
-use mathlib.Core.Path.{_≡_, refl, ap, sym, _∙_}
-use mathlib.Core.Bool.{Bool, true, false, cond}
+use mathlib.Core.{Path.{_≡_, refl, ap, sym, _∙_}, Bool.{Bool, true, false, cond}}
 use Prim.Native.Nat.{ℕ, _+_, _/_, _^_}
 use lib.Dec.{eqb, ltb}
-use Rattle.word.specs.Anchor.{anchorOf, packAnchor}
-use Rattle.word.specs.Link.{linkOf, packLink}
-use Rattle.model.specs.declared.Call.{Call}
-use Rattle.model.specs.{Tables.atPlace, Sound.from1}
-use Rattle.model.specs.Sides.{far, facing, pushing}
-use Rattle.model.specs.Places.{Touch, nothing, setAnchor, row, sideOf, linkSide, new4, move, at1, at2, at3, at4, at5, at6, at7, at9, at10, at11, at12}
-use Rattle.model.specs.Places.{at13, at14, at15, at16, at17}
+use Rattle.word.specs.{Anchor.{anchorOf, packAnchor}, Link.{linkOf, packLink}}
+use Rattle.model.specs.{declared.Call.Call, Tables.atPlace, Sound.from1, Sides.{far, facing, pushing}}
+use Rattle.model.specs.Places.{Touch, nothing, setAnchor, row, sideOf, linkSide, new4, move, at1, at2, at3, at4, at5}
+use Rattle.model.specs.Places.{at6, at7, at9, at10, at11, at12, at13, at14, at15, at16, at17}
 use Rattle.model.proofs.tests.Truth.{split}
 use Rattle.decide.specs.Ending.{mayChange}
-use Rattle.threads_model.specs.declared.PlannedTouch.{PlannedTouch}
-use Rattle.threads_model.specs.Split.{planOf, refuses, loadsAnchor, swapsAnchor, loadsLink, loadsHead, loads, touchAsRead, planFor, planned}
+use Rattle.threads_model.specs.{declared.PlannedTouch.PlannedTouch, Split.{touchAsRead, planned}}
+use Rattle.threads_model.specs.Split.{planOf, refuses, loadsAnchor, swapsAnchor, loadsLink, loadsHead, loads, planFor}
 use Rattle.threads.proofs.split.Touches as touches
 
 -- The side that a status names, and its opposite.
@@ -25,8 +21,8 @@ module _ (pooled slots : ℕ) (r : Call) where
   abbrev pub own : Bool
   own = eqb (r .side) 1
 
-  abbrev pub named : Bool
-  named = eqb (anchorOf (r .seen) .status) 1
+  abbrev pub statusRight : Bool
+  statusRight = eqb (anchorOf (r .seen) .status) 1
 
   abbrev pub end : Bool → ℕ
   end right = cond right (anchorOf (r .seen) .right) (anchorOf (r .seen) .left)
@@ -116,11 +112,11 @@ module _ (pooled slots : ℕ) (r : Call) where
   pub read3 : eqb (r .kind) 0 ≡ false → cond (from1 slots (end own)) (loadsLink (cond own 0 1) (end own)) (refuses 34) ≡ at 3
   read3 k = sym (asked3-pop k) ∙ via 3 (touches.touch3-pop r pooled slots k)
 
-  pub plan5 : cond (from1 slots (end named)) (loadsLink (cond named 0 1) (end named)) (refuses 34) ≡ at 5
+  pub plan5 : cond (from1 slots (end statusRight)) (loadsLink (cond statusRight 0 1) (end statusRight)) (refuses 34) ≡ at 5
   unfolding planned loads move at5 row sideOf linkSide
-  plan5 = split (from1 slots (end named)) (λ f. rw (mirror, f)) (λ f. rw (mirror, f))
+  plan5 = split (from1 slots (end statusRight)) (λ f. rw (mirror, f)) (λ f. rw (mirror, f))
 
-  pub plan7 : cond (from1 slots (r .neighbour)) (loadsLink (cond named 1 0) (r .neighbour)) (refuses 34) ≡ at 7
+  pub plan7 : cond (from1 slots (r .neighbour)) (loadsLink (cond statusRight 1 0) (r .neighbour)) (refuses 34) ≡ at 7
   unfolding planned loads move at7 row sideOf linkSide
   plan7 = split (from1 slots (r .neighbour)) (λ f. rw f) (λ f. rw f)
 
@@ -135,11 +131,11 @@ module _ (pooled slots : ℕ) (r : Call) where
   raised x = packLink (record { tag = r .link / 2 ^ 32 + 1; slot = x })
 
   pub swap9 : from1 slots (r .neighbour) ≡ true → room ≡ true
-      → planOf 4 (cond named 1 0) (r .neighbour) (r .link) (raised (end named)) 0 ≡ at 9
+      → planOf 4 (cond statusRight 1 0) (r .neighbour) (r .link) (raised (end statusRight)) 0 ≡ at 9
   unfolding loads move at9 row sideOf linkSide
   swap9 f l = sym (rw (f, l, mirror)) ∙ via 9 (touches.touch9 r pooled slots)
 
-  pub load9 : from1 slots (r .neighbour) ≡ true → room ≡ false → planOf 3 (cond named 1 0) (r .neighbour) 0 0 0 ≡ at 9
+  pub load9 : from1 slots (r .neighbour) ≡ true → room ≡ false → planOf 3 (cond statusRight 1 0) (r .neighbour) 0 0 0 ≡ at 9
   unfolding loads move at9 row sideOf linkSide
   load9 f l = sym (rw (f, l)) ∙ via 9 (touches.touch9 r pooled slots)
 

@@ -1,27 +1,22 @@
 -- A split step taken apart: the tables that its touch leaves, and what its settlement comes to, which hangs on one test and on the place's move.
-use mathlib.Core.Path.{_≡_, refl, ap, _∙_}
-use mathlib.Core.Bool.{Bool, true, false, _&&_, not, cond}
+use mathlib.Core.{Path.{_≡_, refl, ap, _∙_}, Bool.{Bool, true, false, _&&_, not, cond}}
 use Prim.Native.Nat.{ℕ}
 use lib.Dec.{eqb}
 use Rattle.word.specs.Anchor.{anchorOf}
 use Rattle.model.specs.declared.{Control.Control, Call.Call, Record.Record, Entry.Entry, Answer.Answer}
-use Rattle.model.specs.declared.Outcome.the-variants.{Moved}
-use Rattle.model.specs.Tables.{Tables, counting}
-use Rattle.model.specs.Sound.{anchorSound}
-use Rattle.model.specs.Places.{Touch, Move, apply}
-use Rattle.model.specs.Route.{leave, route, onward, answer}
-use Rattle.model.specs.Refusals.{leavesSound, hasRoom}
-use Rattle.model.specs.Calls.{Acted, decide, entryOf, finish}
+use Rattle.model.specs.{declared.Outcome.the-variants.Moved, Tables.{Tables, counting}, Sound.anchorSound}
+use Rattle.model.specs.{Places.{Touch, Move, apply}, Route.{leave, route, onward, answer}}
+use Rattle.model.specs.{Refusals.{leavesSound, hasRoom}, Calls.{Acted, decide, entryOf, finish}}
 use Rattle.model.proofs.tests.Truth.{split, either}
 use Rattle.decide.proofs.Routes.{Quiet}
-use Rattle.threads_model.specs.declared.PlannedTouch.{PlannedTouch}
-use Rattle.threads_model.specs.Split.{refuses, knowing, Touched, found, swapped, perform, Settled, refusing, entryFound, gone, settledAt, meetsAnchor}
+use Rattle.threads_model.specs.{declared.PlannedTouch.PlannedTouch, Split.{gone, settledAt, meetsAnchor}}
+use Rattle.threads_model.specs.Split.{refuses, knowing, Touched, found, swapped, perform, Settled, refusing, entryFound}
 use Rattle.threads.proofs.split.Touches.{done, failed}
 
 -- Only a route to the answer popped names an entry.
-pub hush : (n f : ℕ) (e e′ : Entry) → Quiet n → answer (onward n f) e ≡ answer (onward n f) e′
+pub any-entry : (n f : ℕ) (e e′ : Entry) → Quiet n → answer (onward n f) e ≡ answer (onward n f) e′
 unfolding onward answer
-hush n f e e′ h =
+any-entry n f e e′ h =
     split (eqb n leave)
     (λ l. split (eqb f 1) (λ g. simp (l, g)) (λ g. simp (l, g)))
     (λ l. simp (l, h))

@@ -1,15 +1,11 @@
 -- What a sound record says field by field, and what a record at its next place must show.
-use mathlib.Core.Path.{_≡_, refl}
-use mathlib.Core.Bool.{Bool, true, false, _&&_, _||_, not, cond}
+use mathlib.Core.{Path.{_≡_, refl}, Bool.{Bool, true, false, _&&_, _||_, not, cond}}
 use Prim.Native.Nat.{ℕ, _≤_}
 use native.Mathlib.Omega.{arith}
 use lib.Dec.{eqb, leb}
 use borrow.Author.Tests.{eqb-true, eqb-false, ne-eqb, leb-true, le-leb, not-true}
-use Rattle.word.specs.Anchor.{anchorOf, packAnchor}
-use Rattle.word.specs.Link.{linkOf, spareOf}
-use Rattle.model.specs.declared.Call.{Call}
-use Rattle.model.specs.Tables.{atPlace}
-use Rattle.model.specs.Kinds.{isPush, isPop, helping, drawing, giving}
+use Rattle.word.specs.{Anchor.{anchorOf, packAnchor}, Link.{linkOf, spareOf}}
+use Rattle.model.specs.{declared.Call.Call, Tables.atPlace, Kinds.{isPush, isPop, helping, drawing, giving}}
 use Rattle.model.specs.Sound.{from1, anchorSound, linkSound, recordSound, recordTests}
 use Rattle.model.proofs.tests.Truth.{split, either, and-of, and-true, or-second, not-both}
 use Rattle.model.proofs.tests.Rules.{tests, passes, _and_}
@@ -51,8 +47,8 @@ module _ (pooled slots : ℕ) where
   unfolding linkSound
   slot-fits v e = and-true (eqb (spareOf v) 0) (leb (linkOf v .slot) slots) e .1
 
-  pub slot-named : (v : ℕ) → not (eqb (linkOf v .slot) 0) ≡ true → linkSound slots v ≡ true → from1 slots (linkOf v .slot) ≡ true
-  slot-named v n l = and-of (le-leb 1 (linkOf v .slot) (above (eqb-false (linkOf v .slot) 0 (not-true _ n)))) (slot-fits v l)
+  pub link-slot : (v : ℕ) → not (eqb (linkOf v .slot) 0) ≡ true → linkSound slots v ≡ true → from1 slots (linkOf v .slot) ≡ true
+  link-slot v n l = and-of (le-leb 1 (linkOf v .slot) (above (eqb-false (linkOf v .slot) 0 (not-true _ n)))) (slot-fits v l)
     where
       above : (linkOf v .slot ≡ 0 → ⊥) → 1 ≤ linkOf v .slot
       above h = omega arith

@@ -1,26 +1,21 @@
 -- A split step is the step on the lent record.
-use mathlib.Core.Path.{_≡_, _∙_}
-use mathlib.Core.Bool.{true}
+use mathlib.Core.{Path.{_≡_, _∙_}, Bool.true}
 use Prim.Native.Nat.{ℕ}
 use native.Mathlib.Omega.{arith}
 use lib.Dec.{eqb}
 use borrow.Author.Tests.{eqb-true}
 use Rattle.word.specs.Anchor.{anchorOf}
-use Rattle.model.specs.declared.Record.{Record}
-use Rattle.model.specs.Tables.{Tables, isPooled}
-use Rattle.model.proofs.tests.{Rules.tests, Truth.split}
-use Rattle.model.specs.Sound.{anchorSound, controlTests, controlSound}
+use Rattle.model.specs.{declared.Record.Record, Tables.{Tables, isPooled}, Calls.stepLent}
+use Rattle.model.{specs.Sound.{anchorSound, controlTests, controlSound}, proofs.tests.{Rules.tests, Truth.split}}
 use Rattle.model.specs.Refusals.{admission, alone, fits, recordRefusal}
-use Rattle.model.specs.Calls.{stepLent}
-use Rattle.engine.specs.MoveOn.{moveOn}
-use Rattle.engine.proofs.InParts.{admitted, placed, below-18}
+use Rattle.engine.{specs.StepAdmitted.stepAdmitted, proofs.InParts.{admitted, placed, below-18}}
 use Rattle.threads_model.specs.Split.{perform, plan, settle, splitStep}
 use Rattle.threads.specs.Promises.{SplitStands}
 use Rattle.threads.proofs.split.ByPlace.{splits}
 
 -- Where the Anchor is sound, the three parts are what an admitted record does.
-moves : (q : Tables) (r : Record) → anchorSound (q .control .slots) (anchorOf (q .control .anchor)) ≡ true → splitStep q r ≡ moveOn q r
-unfolding splitStep plan perform settle moveOn
+moves : (q : Tables) (r : Record) → anchorSound (q .control .slots) (anchorOf (q .control .anchor)) ≡ true → splitStep q r ≡ stepAdmitted q r
+unfolding splitStep plan perform settle stepAdmitted
 moves q r sound =
     split (eqb (recordRefusal (isPooled (q .control)) (q .control .slots) (r .call)) 0)
     (λ z. let none = eqb-true _ _ z in

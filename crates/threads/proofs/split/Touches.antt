@@ -1,18 +1,13 @@
 -- What a place touches where every word is as read, at the places whose touch hangs on a test; and the move at 11.
-use mathlib.Core.Path.{_≡_, refl, ap}
-use mathlib.Core.Bool.{Bool, true, false, cond}
+use mathlib.Core.{Path.{_≡_, refl, ap}, Bool.{Bool, true, false, cond}}
 use Prim.Native.Nat.{ℕ, _+_}
 use lib.Dec.{eqb}
 use borrow.Author.Tests.{eq-eqb}
-use Rattle.word.specs.Anchor.{anchorOf, packAnchor}
-use Rattle.word.specs.Link.{linkOf, packLink}
-use Rattle.model.specs.declared.{Control.Control, Call.Call}
-use Rattle.model.specs.Tables.{isPooled, atPlace, withSeen, withOwn, withNeighbour}
-use Rattle.model.specs.Sides.{facing}
-use Rattle.model.specs.Kinds.{isPush, isPop}
-use Rattle.model.specs.Places.{Touch, nothing, setAnchor, setLink, clearMark, takeSlot, setHead, Move, raised}
-use Rattle.model.specs.Places.{reading, row, sideOf, linkSide, endSeen, new4, move, at2, at3, at4, at9, at10, at11, at14, at17}
-use Rattle.model.proofs.tests.Truth.{split}
+use Rattle.word.specs.{Anchor.{anchorOf, packAnchor}, Link.{linkOf, packLink}}
+use Rattle.model.specs.{declared.{Control.Control, Call.Call}, Sides.facing, Kinds.{isPush, isPop}}
+use Rattle.model.{specs.Tables.{isPooled, atPlace, withSeen, withOwn, withNeighbour}, proofs.tests.Truth.split}
+use Rattle.model.specs.Places.{Touch, nothing, setAnchor, setLink, clearMark, takeSlot, setHead, Move, raised, reading}
+use Rattle.model.specs.Places.{row, sideOf, linkSide, endSeen, new4, move, at2, at3, at4, at9, at10, at11, at14, at17}
 use Rattle.threads_model.specs.Split.{knowing, touchAsRead}
 
 -- A word equals itself.
@@ -93,12 +88,12 @@ module _ (r : Call) where
   unfolding move at3
   touch3-pop pooled slots p = ap (λ (b : Bool). cond b (done (put3 (r .link)) (atPlace r 3)) (reads3 (r .link)) .touch) p
 
-  abbrev taken11 : Bool → ℕ → Move
-  taken11 b w =
+  abbrev cleared11 : Bool → ℕ → Move
+  cleared11 b w =
       cond b (record { touch = clearMark (row (atPlace r 11)); task = withOwn (atPlace r 11) (row (atPlace r 11)) w; branch = 1; failed = false })
       (done (clearMark (row (atPlace r 11))) (atPlace r 11))
 
-  pub moves11 : (c : Control) (w : ℕ) → move c (atPlace r 11) w ≡ taken11 (isPooled c) w
+  pub moves11 : (c : Control) (w : ℕ) → move c (atPlace r 11) w ≡ cleared11 (isPooled c) w
   unfolding move at11
   moves11 c w = refl
 
@@ -106,5 +101,5 @@ module _ (r : Call) where
   unfolding move at11
   touch11 pooled slots =
       split (eqb pooled 1)
-      (λ p. ap (λ (b : Bool). taken11 b (r .link) .touch) p)
-      (λ p. ap (λ (b : Bool). taken11 b (r .link) .touch) p)
+      (λ p. ap (λ (b : Bool). cleared11 b (r .link) .touch) p)
+      (λ p. ap (λ (b : Bool). cleared11 b (r .link) .touch) p)

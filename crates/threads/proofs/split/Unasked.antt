@@ -1,24 +1,18 @@
 -- A sound record need not be asked: its plan and its settlement are the same unasked, and it stays sound.
-use mathlib.Core.Path.{_≡_, refl, ap, subst, sym, _∙_}
-use mathlib.Core.Bool.{Bool, true, false, _&&_, not}
+use mathlib.Core.{Path.{_≡_, refl, ap, subst, _∙_}, Bool.{Bool, true, false, _&&_, not}}
 use Prim.Native.Nat.{ℕ}
 use native.Mathlib.Omega.{arith}
-use lib.Dec.{eqb, leb}
+use lib.Dec.{eqb}
 use borrow.Author.Tests.{eqb-true, eqb-false, ne-eqb, le-leb}
 use Rattle.word.specs.Anchor.{anchorOf}
-use Rattle.model.specs.declared.{Call.Call, Record.Record}
-use Rattle.model.specs.Sound.{from1, anchorSound, recordSound}
-use Rattle.model.specs.Refusals.{recordRefusal, stepSound}
-use Rattle.model.specs.Ends.{isMoved}
-use Rattle.model.proofs.tests.Truth.{split, by-test, not-both}
+use Rattle.model.specs.{declared.{Call.Call, Record.Record}, Sound.{from1, anchorSound, recordSound}, Ends.isMoved}
+use Rattle.model.{specs.Refusals.{recordRefusal, stepSound}, proofs.tests.Truth.{split, by-test, not-both}}
 use Rattle.threads_model.specs.declared.PlannedTouch.{PlannedTouch}
-use Rattle.threads_model.specs.Split.{knowing, planned, onRow, within, planUnasked, plan, Settled}
-use Rattle.threads_model.specs.Split.{gone, settledAt, meetsAnchor, settle, settleUnasked, placeRefusal}
+use Rattle.threads_model.specs.Split.{knowing, planned, onRow, within, planUnasked, plan, Settled, gone, settledAt}
+use Rattle.threads_model.specs.Split.{meetsAnchor, settle, settleUnasked, placeRefusal}
 use Rattle.threads.specs.Promises.{UnaskedStands}
-use Rattle.threads.proofs.split.ByRecord.{idle-plan, sound-none, low, high}
-use Rattle.threads.proofs.split.Within.{plans-within}
-use Rattle.threads.proofs.split.SoundFields.{fit}
-use Rattle.threads.proofs.split.StaysSound.{settle-sound}
+use Rattle.threads.proofs.split.{ByRecord.{idle-plan, sound-none, low, high}, Within.plans-within}
+use Rattle.threads.proofs.split.{SoundFields.fit, StaysSound.settle-sound}
 
 -- A refused settlement leaves the record.
 pub stays : (pooled slots : ℕ) (r : Record) (w : ℕ) → isMoved (settle pooled slots r w .outcome) ≡ false → settle pooled slots r w .task ≡ r

@@ -1,21 +1,16 @@
 -- A plan for a row names a slot, whatever the record holds; so does a start that is not refused.
-use mathlib.Core.Path.{_≡_, refl, ap, subst, sym, _∙_}
-use mathlib.Core.Bool.{Bool, true, false, _&&_, not, cond}
+use mathlib.Core.{Path.{_≡_, refl, ap, subst, sym, _∙_}, Bool.{Bool, true, false, _&&_, not, cond}}
 use Prim.Native.Nat.{ℕ, suc, _+_, _/_, _^_, _≤_}
 use native.Mathlib.Omega.{arith}
 use lib.Dec.{eqb, leb}
 use borrow.Author.Tests.{eqb-true, eqb-false, le-leb, not-false, not-true}
-use Rattle.word.specs.Anchor.{anchorOf, packAnchor}
-use Rattle.word.specs.Link.{linkOf, spareOf}
-use Rattle.model.specs.Sides.{far, facing, pushing}
-use Rattle.decide.specs.Ending.{mayChange}
-use Rattle.model.specs.declared.Call.{Call}
-use Rattle.model.specs.{Tables.atPlace, Refusals.recordRefusal}
+use Rattle.word.specs.{Anchor.{anchorOf, packAnchor}, Link.{linkOf, spareOf}}
+use Rattle.model.specs.{Sides.{far, facing, pushing}, declared.Call.Call, Tables.atPlace, Refusals.recordRefusal}
 use Rattle.model.specs.Sound.{from1, linkSound, recordTests, recordSound}
-use Rattle.model.proofs.tests.Rules.{cleared, tests}
-use Rattle.model.proofs.tests.Truth.{split, either, by-test, and-true, and-of, not-both}
-use Rattle.threads_model.specs.declared.PlannedTouch.{PlannedTouch}
-use Rattle.threads_model.specs.Split.{refuses, loadsAnchor, swapsAnchor, loadsLink, plan, planned, onRow, placeRefusal, planUnasked}
+use Rattle.model.proofs.tests.{Rules.{cleared, tests}, Truth.{split, either, by-test, and-true, and-of, not-both}}
+use Rattle.decide.specs.Ending.{mayChange}
+use Rattle.threads_model.specs.{declared.PlannedTouch.PlannedTouch, Split.planUnasked}
+use Rattle.threads_model.specs.Split.{refuses, loadsAnchor, swapsAnchor, loadsLink, plan, planned, onRow, placeRefusal}
 use Rattle.threads_model.specs.Starts.{ownRules, ownRefusal, wrongPush, outside, startWhy, planStart}
 use Rattle.threads.specs.Promises.{PlansWithin, UnaskedWithin, StartsWithin}
 use Rattle.threads.proofs.split.Planned as asks
@@ -80,11 +75,11 @@ module _ (pooled slots : ℕ) (r : Call) where
 
   pub ok5 : ok 5
   ok5 =
-      tested (asks.end pooled slots r (asks.named pooled slots r)) (cond (asks.named pooled slots r) 0 1) (planned pooled slots (atPlace r 5))
+      tested (asks.end pooled slots r (asks.statusRight pooled slots r)) (cond (asks.statusRight pooled slots r) 0 1) (planned pooled slots (atPlace r 5))
       (asks.plan5 pooled slots r)
 
   pub ok7 : ok 7
-  ok7 = tested (r .neighbour) (cond (asks.named pooled slots r) 1 0) (planned pooled slots (atPlace r 7)) (asks.plan7 pooled slots r)
+  ok7 = tested (r .neighbour) (cond (asks.statusRight pooled slots r) 1 0) (planned pooled slots (atPlace r 7)) (asks.plan7 pooled slots r)
 
   -- 1, 6, 8, 12 and 15 load Anchor or the head.
   pub loaded : {p q : PlannedTouch} → p ≡ q → onRow (p .act) ≡ false → Within slots q

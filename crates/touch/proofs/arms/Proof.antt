@@ -4,9 +4,8 @@ use Rattle.engine.proofs.InParts.{above}
 use Rattle.threads.proofs.split.Planned as asks
 use Rattle.threads_model.specs.Split.{within}
 use Rattle.threads.proofs.split.Within as ok
-use Rattle.touch.proofs.Tested.{plans-at-place, plans-row, plans-none, beyond}
+use Rattle.touch.proofs.{Tested.{plans-at-place, plans-row, plans-none, beyond}, arms.Statement.statement}
 use borrow.Author.Needs.{needs}
-use Rattle.touch.proofs.arms.Statement.{statement}
 use Rattle.touch.proofs.arms.Tie as tie
 
 returns : tie.Need-returns

@@ -2,13 +2,10 @@
 use Prim.Native.Nat.{ℕ}
 use mathlib.Core.Path.{_≡_, refl, ap, sym, _∙_}
 use lib.Dec.{eqb, leb}
-use borrow.Author.Tests.{ne-eqb, le-leb}
+use borrow.Author.{Tests.{ne-eqb, le-leb}, Needs.needs}
 use Rattle.model.specs.declared.Call.{Call}
 use Rattle.rows.specs.Rows.{callOf}
-use Rattle.touch.proofs.Tested.{beyond}
-use Rattle.touch.proofs.Border.{nowhere}
-use borrow.Author.Needs.{needs}
-use Rattle.touch.proofs.settle_unasked.Statement.{statement}
+use Rattle.touch.proofs.{Tested.beyond, Border.nowhere, settle_unasked.Statement.statement}
 use Rattle.touch.proofs.settle_unasked.Tie as tie
 
 -- The place is that of the row.

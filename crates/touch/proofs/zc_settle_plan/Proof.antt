@@ -4,12 +4,9 @@ use lib.Dec.{eqb}
 use Rattle.model.specs.declared.Reply.{Reply}
 use Rattle.rows.specs.Rows.{callOf, recordOf, upperOf}
 use Rattle.threads_model.specs.Split.{heardAs}
-use Rattle.threads.proofs.split.ByRecord.{refuses-plan}
-use Rattle.threads.proofs.split.Unasked.{placed}
-use Rattle.touch.proofs.Tested.{sound-of}
-use Rattle.touch.proofs.Border.{turned-away, as-asked}
+use Rattle.threads.proofs.split.{ByRecord.refuses-plan, Unasked.placed}
+use Rattle.touch.proofs.{Tested.sound-of, Border.{turned-away, as-asked}, zc_settle_plan.Statement.statement}
 use borrow.Author.Needs.{needs}
-use Rattle.touch.proofs.zc_settle_plan.Statement.{statement}
 use Rattle.touch.proofs.zc_settle_plan.Tie as tie
 
 returns : tie.Need-returns

@@ -5,8 +5,7 @@ use lib.ListN.{length}
 use native.Mathlib.Omega.{arith}
 use borrow.Author.Needs.{needs}
 use Rattle.trace_field.specs.{Run.carried, Page.uppersAfter}
-use Rattle.trace_field.proofs.Pages.{written-none, breaks-roomy}
-use Rattle.trace_field.proofs.Fields.{each-there, task-bytes}
+use Rattle.trace_field.proofs.{Pages.{written-none, breaks-roomy}, Fields.{each-there, task-bytes}}
 use Rattle.trace_field.proofs.carry_out.Statement.{statement}
 use Rattle.trace_field.proofs.carry_out.Tie as tie
 

@@ -1,8 +1,7 @@
 -- One line, and the run is over; or nothing, where the line does not fit.
 use mathlib.Core.Path.{sym, _∙_}
 use borrow.Author.Needs.{needs}
-use Rattle.trace_field.proofs.{Pages.breaks-short, AfterActs.break-page}
-use Rattle.trace_field.proofs.malformed.Statement.{statement}
+use Rattle.trace_field.proofs.{Pages.breaks-short, AfterActs.break-page, malformed.Statement.statement}
 use Rattle.trace_field.proofs.malformed.Tie as tie
 
 returns : tie.Need-returns

@@ -1,13 +1,11 @@
 -- The field found is carried out, and the position moves behind it.
-use mathlib.Core.Path.{_≡_, refl, sym, subst, _∙_}
-use mathlib.Core.Bool.{true}
+use mathlib.Core.{Path.{_≡_, refl, sym, subst, _∙_}, Bool.true}
 use Prim.Native.Nat.{_+_}
 use lib.{Dec.leb, ListN.length}
 use borrow.Author.{Needs.needs, Tests.leb-true}
 use Rattle.runfile.specs.declared.Found.{Found}
 use Rattle.trace_field.specs.Page.{BytesThere}
-use Rattle.trace_field.proofs.Fields.{field-there, next-fits, takes-page, takes-none}
-use Rattle.trace_field.proofs.take.Statement.{statement}
+use Rattle.trace_field.proofs.{Fields.{field-there, next-fits, takes-page, takes-none}, take.Statement.statement}
 use Rattle.trace_field.proofs.take.Tie as tie
 
 -- The field found, whether there was room for it, and the beginning.

@@ -2,8 +2,7 @@
 use mathlib.Core.List.{[]}
 use native.Mathlib.Omega.{arith}
 use borrow.Author.Needs.{needs}
-use Rattle.trace_replay.specs.Pieces.{lastPage}
-use Rattle.trace_replay.proofs.Bounds.{finished-within}
+use Rattle.trace_replay.{specs.Pieces.lastPage, proofs.Bounds.finished-within}
 use Rattle.trace_pages.proofs.end.Statement.{statement}
 use Rattle.trace_pages.proofs.end.Tie as tie
 

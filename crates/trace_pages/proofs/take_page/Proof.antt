@@ -1,8 +1,7 @@
 -- What `feed` wrote from the front of the buffer is in it, and is what is written out.
 use native.Mathlib.Omega.{arith}
 use borrow.Author.Needs.{needs}
-use Rattle.trace_replay.specs.Pieces.{nextPage}
-use Rattle.trace_replay.proofs.Bounds.{fed-within}
+use Rattle.trace_replay.{specs.Pieces.nextPage, proofs.Bounds.fed-within}
 use Rattle.trace_pages.proofs.take_page.Statement.{statement}
 use Rattle.trace_pages.proofs.take_page.Tie as tie
 

@@ -2,15 +2,12 @@
 use mathlib.Core.Path.{_≡_, refl, sym, ap, subst, _∙_}
 use Prim.Native.Nat.{_-_}
 use native.Mathlib.Omega.{arith}
-use borrow.Author.Needs.{needs}
+use borrow.Author.{Needs.needs, Tests.{not-true, not-false}}
 use lib.ListN.{length}
 use Rattle.trace_field.specs.Page.{Page, pageOf}
-use Rattle.trace_replay.specs.Pieces.{pagesOf}
-use borrow.Author.Tests.{not-true, not-false}
+use Rattle.trace_replay.{specs.Pieces.pagesOf, proofs.PageLoop.{pages-rest, pages-last, pages-ended}}
 use Rattle.trace_pages.specs.Some.{Some, none, more}
-use Rattle.trace_replay.proofs.PageLoop.{pages-rest, pages-last, pages-ended}
-use Rattle.trace_pages.proofs.PieceLoop.{still-when, moved-when, went-on}
-use Rattle.trace_pages.proofs.take_piece.Statement.{statement}
+use Rattle.trace_pages.proofs.{PieceLoop.{still-when, moved-when, went-on}, take_piece.Statement.statement}
 use Rattle.trace_pages.proofs.take_piece.Tie as tie
 
 abbrev Inv-loop : tie.InvT-loop

@@ -2,13 +2,11 @@
 use mathlib.Core.Path.{_≡_, refl, sym, ap, _∙_}
 use Prim.Native.Nat.{_-_}
 use native.Mathlib.Omega.{arith}
-use borrow.Author.Needs.{needs}
-use borrow.Author.Tests.{not-true, not-false}
+use borrow.Author.{Needs.needs, Tests.{not-true, not-false}}
 use lib.ListN.{length}
 use Rattle.trace_field.specs.Page.{Page, pageOf}
 use Rattle.trace_replay.specs.Feed.{feedPage}
-use Rattle.trace_replay.proofs.Loop.{goes-on, feed-rest, feed-last, feed-ended}
-use Rattle.trace_replay.proofs.feed.Statement.{statement}
+use Rattle.trace_replay.proofs.{Loop.{goes-on, feed-rest, feed-last, feed-ended}, feed.Statement.statement}
 use Rattle.trace_replay.proofs.feed.Tie as tie
 
 abbrev Inv-loop : tie.InvT-loop

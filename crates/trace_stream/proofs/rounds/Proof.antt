@@ -1,10 +1,8 @@
 -- The run stands after the pieces read so far, and has left less than a field of them. The lent buffers keep their lengths; `turns` falls.
-use mathlib.Core.Path.{_≡_, refl, sym, _∙_}
-use mathlib.Core.List.{List}
+use mathlib.Core.{Path.{_≡_, refl, sym, _∙_}, List.List}
 use Prim.Native.Nat.{ℕ, _-_, _<_, _≤_}
 use native.Mathlib.Omega.{arith}
-use lib.ListN.{length}
-use lib.Seq.{slice, drop-nil}
+use lib.{ListN.length, Seq.{slice, drop-nil}}
 use borrow.Author.Needs.{needs}
 use Rattle.runfile.specs.Field.{longestField}
 use Rattle.trace_field.specs.Page.{pageOf}

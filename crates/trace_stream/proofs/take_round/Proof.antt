@@ -1,10 +1,8 @@
 -- What was left stands before what was read, and all of it is taken, or the end of the input.
 use Prim.Native.Nat.{ℕ, _-_, _≤_}
-use mathlib.Core.Path.{_≡_, sym, _∙_}
-use mathlib.Core.List.{List}
+use mathlib.Core.{Path.{_≡_, sym, _∙_}, List.List}
 use native.Mathlib.Omega.{arith}
-use lib.ListN.{length, take}
-use lib.Seq.{slice, length-take-le, length-slice}
+use lib.{ListN.{length, take}, Seq.{slice, length-take-le, length-slice}}
 use borrow.Author.{Needs.needs, Tests.not-false}
 use Rattle.trace_stream.proofs.Reading.{never, end-round, piece-round, none-read, some-read}
 use Rattle.trace_stream.proofs.take_round.Statement.{statement}

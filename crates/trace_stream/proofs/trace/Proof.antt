@@ -1,10 +1,8 @@
 -- The tables are all zero; the input is as long as the longest field, and the output has room for the lines of one.
 use Prim.Native.Nat.{ℕ, _≤_}
-use mathlib.Core.Path.{_≡_, refl}
-use mathlib.Core.Bool.{true}
+use mathlib.Core.{Path.{_≡_, refl}, Bool.true}
 use native.Mathlib.Omega.{arith}
-use lib.Dec.{leb}
-use lib.ListN.{length, replicate, length-replicate}
+use lib.{Dec.leb, ListN.{length, replicate, length-replicate}}
 use borrow.Author.{Needs.needs, Tests.leb-true}
 use Rattle.runfile.specs.Field.{longestField}
 use Rattle.trace_field.specs.Page.{fieldRoom}

@@ -1,17 +1,13 @@
 -- With i slots stored: what is still to be stored, beside what is, comes to what the call owes.
-use mathlib.Core.Path.{_≡_, refl, sym, ap, subst, _∙_}
-use mathlib.Core.List.{List}
+use mathlib.Core.{Path.{_≡_, refl, sym, ap, subst, _∙_}, List.List}
 use Prim.Native.Nat.{ℕ, _≤_, _<_, _+_, _-_}
 use native.Mathlib.Omega.{arith}
 use lib.ListN.{getD, length, length-set, set}
 use borrow.Author.Needs.{needs}
 use Rattle.word.specs.Link.{linkOf}
 use Rattle.walk.specs.declared.Way.{Way}
-use Rattle.walk.specs.Ways.{linksOn}
-use Rattle.waiting.specs.Waiting.{slotsOf, labelsOf}
-use Rattle.waiting.specs.Laid.{Inside, Lays, trail, place, laid}
-use Rattle.waiting.proofs.Laid.{begins, more, ends, inside-next, place-low}
-use Rattle.waiting.proofs.lay.Statement.{statement}
+use Rattle.waiting.specs.{Waiting.{slotsOf, labelsOf}, Laid.{Inside, trail, place, laid}}
+use Rattle.waiting.proofs.{Laid.{begins, more, ends, inside-next, place-low}, lay.Statement.statement}
 use Rattle.waiting.proofs.lay.Tie as tie
 
 record Kept (w : Way) (n : ℕ) (links labels slots₀ copies₀ slots copies : List ℕ) (i x : ℕ) : Type 0 where
@@ -23,29 +19,28 @@ record Kept (w : Way) (n : ℕ) (links labels slots₀ copies₀ slots copies : 
   due : laid (w .rightward) n i (labelsOf (trail links labels (n - i) x)) copies ≡ laid (w .rightward) n 0 (labelsOf (trail links labels n (w .first))) copies₀
 
 abbrev Inv-loop : tie.InvT-loop
-Inv-loop w n lefts rights labels slots₀ copies₀ i₀ x₀ slots copies i x =
-    Kept w n (linksOn w lefts rights) labels slots₀ copies₀ slots copies i x
+Inv-loop w n links labels slots₀ copies₀ i₀ x₀ slots copies i x = Kept w n links labels slots₀ copies₀ slots copies i x
 
 abbrev μ-loop : tie.MeasureT-loop
-μ-loop w n lefts rights labels slots₀ copies₀ i₀ x₀ slots copies i x = n - i
+μ-loop w n links labels slots₀ copies₀ i₀ x₀ slots copies i x = n - i
 
 loop-holds : tie.Need-loop-holds Inv-loop μ-loop
 loop-holds c =
-    let s = c .before .before .before .before .before in
+    let s = c .before .before .before .before in
     let a = s .args in
     record {
       long = refl;
       broad = refl;
       few = omega arith;
       inside = let z : a .n ≡ a .n - 0 = omega arith in
-          subst (λ (m : ℕ). Inside (a .w .slots) (trail (linksOn (a .w) (a .lefts .now) (a .rights .now)) (a .labels .now) m (a .w .first))) z (s .pre .inside);
-      owed = begins (λ e. e .slot) (linksOn (a .w) (a .lefts .now) (a .rights .now)) (a .labels .now) (a .w .rightward) (a .n) (a .w .first) (a .slots .now);
-      due = begins (λ e. e .label) (linksOn (a .w) (a .lefts .now) (a .rights .now)) (a .labels .now) (a .w .rightward) (a .n) (a .w .first) (a .copies .now);
+          subst (λ (m : ℕ). Inside (a .w .slots) (trail (a .links .now) (a .labels .now) m (a .w .first))) z (s .pre .inside);
+      owed = begins (λ e. e .slot) (a .links .now) (a .labels .now) (a .w .rightward) (a .n) (a .w .first) (a .slots .now);
+      due = begins (λ e. e .label) (a .links .now) (a .labels .now) (a .w .rightward) (a .n) (a .w .first) (a .copies .now);
     }
 
 -- Where a turn began, and what the call was given.
 abbrev given : tie.At-loop Inv-loop μ-loop → tie.Start Inv-loop μ-loop
-given l = let s = l .before .before .before in s .before .before .before
+given l = l .before .before .before .before .before
 
 -- The place is one of both tables.
 module _ (p : tie.After-place Inv-loop μ-loop) where
@@ -65,16 +60,15 @@ module _ (p : tie.After-place Inv-loop μ-loop) where
 
   -- The slot has a row in every table, and what follows keeps to the slots.
   slot-in : (turn .loop .x ≤ given turn .args .w .slots)
-      × Inside (given turn .args .w .slots) (trail (linksOn (given turn .args .w) (given turn .args .lefts .now) (given turn .args .rights .now))
-      (given turn .args .labels .now) (given turn .args .n - (turn .loop .i + 1))
-      (linkOf (getD (linksOn (given turn .args .w) (given turn .args .lefts .now) (given turn .args .rights .now)) (turn .loop .x) 0) .slot))
+      × Inside (given turn .args .w .slots) (trail (given turn .args .links .now) (given turn .args .labels .now) (given turn .args .n - (turn .loop .i + 1))
+      (linkOf (getD (given turn .args .links .now) (turn .loop .x) 0) .slot))
   slot-in = inside-next _ _ _ _ _ _ (p .before .loop-test .taken) (turn .loop .inv .inside)
 
   in-labels : turn .loop .x < length (given turn .args .labels .now)
   in-labels = omega (arith, slot-in .0, given turn .pre .label-rows)
 
-  links-in : (turn .loop .x < length (given turn .args .lefts .now)) × (turn .loop .x < length (given turn .args .rights .now))
-  links-in = omega (arith, slot-in .0, given turn .pre .left-rows, given turn .pre .right-rows)
+  link-in : turn .loop .x < length (given turn .args .links .now)
+  link-in = omega (arith, slot-in .0, given turn .pre .link-rows)
 
 loop-again : tie.Need-loop-again Inv-loop μ-loop
 loop-again c =
@@ -82,7 +76,7 @@ loop-again c =
     let p = b .before in
     let l = turn p in
     let a = given l .args in
-    let links = linksOn (a .w) (a .lefts .now) (a .rights .now) in
+    let links = a .links .now in
     let lt = p .before .loop-test .taken in
     record {
       long = length-set (l .loop .slots) (p .place .result) (l .loop .x) ∙ l .loop .inv .long;
@@ -103,7 +97,7 @@ returns : tie.Need-returns Inv-loop μ-loop
 returns c =
     let l = c .before in
     let a = given l .args in
-    let links = linksOn (a .w) (a .lefts .now) (a .rights .now) in (
+    let links = a .links .now in (
       ends (λ e. e .slot) links (a .labels .now) (a .w .rightward) (a .n) (l .loop .i) (l .loop .x) _ _ (c .loop-test .left) (l .loop .inv .owed),
       ends (λ e. e .label) links (a .labels .now) (a .w .rightward) (a .n) (l .loop .i) (l .loop .x) _ _ (c .loop-test .left) (l .loop .inv .due),
     )
@@ -122,7 +116,7 @@ lay-spec =
     (λ c. in-slots (c .before))
     (λ c. let h = in-copies (c .before) in search needs)
     (λ c. in-copies (c .before))
-    (λ c κs. links-in (c .before))
+    (λ c κs. link-in (c .before))
     (λ c. omega arith)
     (λ c. omega arith)
     loop-again

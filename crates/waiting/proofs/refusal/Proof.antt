@@ -1,6 +1,5 @@
 -- Tests made one after the other.
-use mathlib.Core.Path.{_≡_, sym, _∙_}
-use mathlib.Core.Bool.{true}
+use mathlib.Core.{Path.{_≡_, sym, _∙_}, Bool.true}
 use borrow.Author.Tests.{not-true, not-false}
 use Rattle.model.specs.Sound.{controlSound}
 use Rattle.waiting.proofs.refusal.Statement.{statement}

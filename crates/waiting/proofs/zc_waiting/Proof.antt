@@ -1,8 +1,7 @@
 -- The control that the row is.
 use mathlib.Core.Path.{ap, _∙_}
 use borrow.Author.Needs.{needs}
-use Rattle.model.specs.declared.Control.{Control}
-use Rattle.model.specs.Tables.{Tables, tablesOf}
+use Rattle.model.specs.{declared.Control.Control, Tables.{Tables, tablesOf}}
 use Rattle.waiting.specs.Waiting.{readOut}
 use Rattle.waiting.proofs.zc_waiting.Statement.{statement}
 use Rattle.waiting.proofs.zc_waiting.Tie as tie

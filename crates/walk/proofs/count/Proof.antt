@@ -1,17 +1,12 @@
 -- With n slots met, what comes of n along the rest of the walk is what the whole walk counts.
-use mathlib.Core.Path.{_≡_, refl, sym, ap, _∙_}
-use mathlib.Core.Bool.{true}
-use mathlib.Core.List.{List, []}
-use Prim.Native.Nat.{ℕ, _≤_, _<_, _+_, _-_}
+use mathlib.Core.{Path.{_≡_, sym, ap, _∙_}, Bool.true, List.{List, []}}
+use Prim.Native.Nat.{ℕ, _≤_, _-_}
 use native.Mathlib.Omega.{arith}
+use borrow.Author.Needs.{needs}
 use Rattle.model.specs.Sound.{from1}
-use Rattle.walk.specs.declared.Way.{Way}
-use Rattle.walk.specs.Ways.{ahead, leadsTo}
-use Rattle.walk.specs.Counted.{counted}
-use Rattle.walk.specs.Over.{Made, over}
-use Rattle.walk.proofs.Along.{comes, begins, full, breaks, stops, goes, real}
+use Rattle.walk.specs.{declared.{Led.Led, Way.Way}, Ways.ahead, Counted.counted, Over.{Made, over}}
+use Rattle.walk.proofs.{Along.{comes, begins, full, turned, turns, led-to}, count.Statement.statement}
 use Rattle.walk.proofs.Counting.{oneMore, tallied, tally-is}
-use Rattle.walk.proofs.count.Statement.{statement}
 use Rattle.walk.proofs.count.Tie as tie
 
 record Kept (w : Way) (lefts rights : List ℕ) (n x : ℕ) : Type 0 where
@@ -43,47 +38,40 @@ module _ (l : tie.At-loop Inv-loop μ-loop) (labels : List ℕ) where
       → tallied r ≡ counted (ahead (a .args .w) (a .args .lefts .now) (a .args .rights .now) labels)
   told r e = ap tallied (sym e ∙ l .loop .inv .counts labels) ∙ tally-is (ahead (a .args .w) (a .args .lefts .now) (a .args .rights .now) labels)
 
-returns : tie.Need-returns Inv-loop μ-loop
-returns c labels =
-    let t = c .before .before in
-    let l = t .before .before in
-    let a = given l .args in
-    told l labels _
-    (stops oneMore (a .w) (a .lefts .now) (a .rights .now) labels (l .loop .n) (l .loop .x) (l .loop .n) (t .if1 .taken) (l .loop .inv .at) (c .if2 .taken))
-
--- Where the link leads.
+-- A turn, by where the walk goes on.
 module _ (v : tie.After-leads Inv-loop μ-loop) where
   abbrev test : tie.Then1 Inv-loop μ-loop
-  test = v .before .before .before
+  test = v .before
 
   abbrev turn : tie.At-loop Inv-loop μ-loop
   turn = test .before .before
 
-  onwards : (labels : List ℕ)
-      → (let a = given turn .args in let n = turn .loop .n in comes oneMore (a .w) (a .lefts .now) (a .rights .now) labels (n + 1) (n + 1) (v .leads .result)
-      ≡ comes oneMore (a .w) (a .lefts .now) (a .rights .now) labels n n (turn .loop .x))
-  onwards labels =
+  onwards : (r : Led) → v .leads .result ≡ r → (labels : List ℕ)
+      → (let a = given turn .args in let n = turn .loop .n in let x = turn .loop .x in
+      comes oneMore (a .w) (a .lefts .now) (a .rights .now) labels n n x
+      ≡ turned oneMore (a .w) (a .lefts .now) (a .rights .now) labels n x n (test .if1 .taken) (turn .loop .inv .at) r)
+  onwards r e labels =
       let a = given turn .args in
       let n = turn .loop .n in
-      ap (λ (y : ℕ). comes oneMore (a .w) (a .lefts .now) (a .rights .now) labels (n + 1) (n + 1) y) (v .leads .ensures)
-      ∙ sym (goes oneMore (a .w) (a .lefts .now) (a .rights .now) labels n (turn .loop .x) n (test .if1 .taken) (turn .loop .inv .at) (v .before .if2 .left))
+      turns oneMore (a .w) (a .lefts .now) (a .rights .now) labels n (turn .loop .x) n (test .if1 .taken) (turn .loop .inv .at) r
+      (sym e ∙ v .leads .ensures)
+
+returns : tie.Need-returns Inv-loop μ-loop
+returns c labels = let v = c .before .before in told (turn v) labels _ (onwards v _ (c .enum-told .given .1) labels)
 
 returns-2 : tie.Need-returns-2 Inv-loop μ-loop
-returns-2 c labels =
-    let v = c .before in
-    let l = turn v in
-    let a = given l .args in
-    told l labels _ (sym (onwards v labels) ∙ breaks oneMore (a .w) (a .lefts .now) (a .rights .now) labels _ _ _ (c .if3 .taken))
+returns-2 c labels = let v = c .before .before in told (turn v) labels _ (onwards v _ (c .enum-told2 .given .1) labels)
 
 loop-again : tie.Need-loop-again Inv-loop μ-loop
 loop-again c =
-    let v = c .before in
+    let v = c .before .before .before in
     let l = turn v in
     let a = given l .args in
+    let to = c .before .next .given in
     record {
       few = omega (arith, test v .if1 .taken);
-      at = rw (v .leads .ensures) (real (a .w) (a .lefts .now) (a .rights .now) [] (l .loop .x) (rw (← v .leads .ensures) (c .if3 .left)));
-      counts = λ labels. onwards v labels ∙ l .loop .inv .counts labels;
+      at = led-to (a .w) (a .lefts .now) (a .rights .now) [] (l .loop .x) (to .0 .0) (sym (to .1) ∙ v .leads .ensures);
+      counts = λ labels. sym (onwards v _ (to .1) labels) ∙ l .loop .inv .counts labels;
     }
 
 returns-3 : tie.Need-returns-3 Inv-loop μ-loop
@@ -100,9 +88,12 @@ count-spec =
     μ-loop
     loop-holds
     (λ c. omega arith)
-    returns
     (λ _ _. tt)
+    (λ c. search needs)
+    returns
+    (λ c. search needs)
     returns-2
+    (λ c. search needs)
     (λ c. omega arith)
     loop-again
     returns-3)

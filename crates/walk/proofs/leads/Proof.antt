@@ -1,27 +1,25 @@
--- An unsound word leads nowhere; the lower half of a sound one is its slot.
-use mathlib.Core.Path.{_≡_, sym, ap, _∙_}
-use Prim.Native.Nat.{ℕ, _%_, _^_}
-use lib.ListN.{getD}
-use borrow.Author.Tests.{not-true, not-false}
-use Rattle.model.specs.Sound.{linkSound}
-use Rattle.walk.specs.Ways.{linksOn, leadsTo}
-use Rattle.walk.proofs.Along.{half-slot}
+-- The tests are the definition's.
+use mathlib.Core.Path.{sym, ap, _∙_}
+use borrow.Author.Tests.{eq-eqb, ne-eqb}
+use Rattle.walk.specs.{declared.Led.the-variants.Slot, Ways.ledFrom}
 use Rattle.walk.proofs.leads.Statement.{statement}
 use Rattle.walk.proofs.leads.Tie as tie
 
-judged : (s : tie.After-link-sound) → (let a = s .before .before .before .before .args in
-    linkSound (a .w .slots) (getD (linksOn (a .w) (a .lefts .now) (a .rights .now)) (a .x) 0) ≡ s .link-sound .result)
-judged s = ap (linkSound (s .before .before .before .before .args .w .slots)) (sym (s .before .link-at .ensures)) ∙ sym (s .link-sound .ensures)
-
 returns : tie.Need-returns
-unfolding leadsTo
-returns c = rw (judged (c .before) ∙ not-true _ (c .if1 .taken))
+unfolding ledFrom
+returns c = rw (eq-eqb _ _ (c .if1 .taken))
 
 returns-2 : tie.Need-returns-2
-unfolding leadsTo
+unfolding ledFrom
 returns-2 c =
-    let fine = judged (c .before) ∙ not-false _ (c .if1 .left) in
-    rw fine (ap (λ (l : ℕ). l % 2 ^ 32) (c .before .before .link-at .ensures) ∙ half-slot _ _ fine)
+    let t = c .before in
+    rw (ne-eqb _ _ (t .before .if1 .left), eq-eqb _ 0 (sym (t .target .ensures) ∙ c .if2 .taken))
+
+returns-3 : tie.Need-returns-3
+unfolding ledFrom
+returns-3 c =
+    let t = c .before in
+    rw (ne-eqb _ _ (t .before .if1 .left), ne-eqb _ 0 (λ z. c .if2 .left (t .target .ensures ∙ z))) (ap Slot (t .target .ensures))
 
 pub leads-spec : {M : Type 1} → statement M
-leads-spec = tie.close (tie.spec (λ _ _. tt) (λ _ _. tt) returns returns-2)
+leads-spec = tie.close (tie.spec returns (λ _ _. tt) returns-2 returns-3)

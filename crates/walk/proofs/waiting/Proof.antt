@@ -1,17 +1,10 @@
--- The count goes the way of the walk.
-use mathlib.Core.Path.{_≡_, sym, ap, _∙_}
-use mathlib.Core.Bool.{cond, true, false}
-use mathlib.Core.List.{List}
+-- What waits, by where its walk begins.
+use mathlib.Core.{Path.{_≡_, sym, ap, _∙_}, Bool.cond, List.List}
 use Prim.Native.Nat.{ℕ}
-use borrow.Author.Tests.{not-true}
-use Rattle.model.specs.Sound.{from1}
-use Rattle.model.specs.Tables.{Tables, tablesOf}
-use Rattle.walk.specs.declared.Way.{Way}
-use Rattle.walk.specs.Counted.{counted}
-use Rattle.walk.specs.Ways.{ahead}
-use Rattle.walk.proofs.Along.{waits, nothing, off}
-use Rattle.walk.proofs.Counting.{either-way}
-use Rattle.walk.proofs.waiting.Statement.{statement}
+use borrow.Author.Needs.{needs}
+use Rattle.model.specs.{Tables.{Tables, tablesOf}, Walk.contents}
+use Rattle.walk.specs.{declared.Beginning.Beginning, Counted.counted, Ways.{ahead, walkBy}}
+use Rattle.walk.proofs.{Along.{waits, begins-at}, Counting.either-way, waiting.Statement.statement}
 use Rattle.walk.proofs.waiting.Tie as tie
 
 -- The tables, whatever their labels, marks and next rows.
@@ -19,33 +12,30 @@ module _ (b : tie.After-begin) (labels marks next : List ℕ) where
   abbrev q : Tables
   q = let a = b .before .before .before .args in tablesOf (a .c) (a .lefts .now) (a .rights .now) labels marks next
 
-  abbrev w : Way
-  w = b .begin .result
+  begun : (r : Beginning) → b .begin .result ≡ r → counted (walkBy r (q .lefts) (q .rights) labels) ≡ counted (contents q)
+  begun r e = ap counted (sym (waits q r (sym e ∙ b .begin .ensures)))
 
 returns : tie.Need-returns
-returns c labels marks next =
-    let t = c .before in
-    let b = t .before .before in
-    let v = w b labels marks next in
-    let tables = q b labels marks next in
-    c .count .ensures labels
-    ∙ sym (ap counted (waits tables v (b .begin .ensures) (sym (t .before .from1 .ensures) ∙ t .if1 .taken))
-    ∙ either-way (cond (v .rightward) 0 1) (ahead v (tables .lefts) (tables .rights) labels))
+returns c labels marks next = begun (c .before .before) labels marks next _ (c .enum-told .given .1)
 
 returns-2 : tie.Need-returns-2
-returns-2 c labels marks next =
-    let b = c .before .before .before .before in
-    sym (ap counted (nothing (q b labels marks next) (w b labels marks next) (b .begin .ensures) (sym (c .before .none-on .ensures) ∙ c .if2 .taken)))
+returns-2 c labels marks next = begun (c .before .before) labels marks next _ (c .enum-told2 .given .1)
 
 returns-3 : tie.Need-returns-3
 returns-3 c labels marks next =
-    let e = c .before .before in
-    let b = e .before .before in
-    sym (ap counted (off (q b labels marks next) (w b labels marks next) (b .begin .ensures)
-    (sym (e .before .from1 .ensures) ∙ e .if1 .left) (sym (c .before .none-on .ensures) ∙ c .if2 .left)))
+    let k = c .before .before in
+    let b = k .before .before in
+    let w = k .start .given .0 .0 in
+    let tables = q b labels marks next in
+    c .count .ensures labels
+    ∙ sym (either-way (cond (w .rightward) 0 1) (ahead w (tables .lefts) (tables .rights) labels))
+    ∙ begun b labels marks next _ (k .start .given .1)
 
 count-requires : tie.Need-count-requires
-count-requires c κs = sym (c .before .from1 .ensures) ∙ c .if1 .taken
+count-requires c κs =
+    let k = c .before in
+    let b = k .before .before in
+    begins-at (b .before .before .before .args .c) (k .start .given .0 .0) (sym (k .start .given .1) ∙ b .begin .ensures) .1
 
 pub waiting-spec : {M : Type 1} → statement M
-waiting-spec = tie.close (tie.spec (λ _ _. tt) (λ _ _. tt) count-requires returns (λ _ _. tt) returns-2 returns-3)
+waiting-spec = tie.close (tie.spec (λ _ _. tt) (λ c. search needs) (λ c. search needs) (λ c. search needs) count-requires returns returns-2 returns-3)

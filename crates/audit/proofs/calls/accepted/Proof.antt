@@ -1,18 +1,12 @@
 -- The calls passed are well formed and apart from every later one; the rest is yet to be tested.
-use mathlib.Core.Bool.{Bool, true, false, _&&_}
-use mathlib.Core.Path.{_≡_, refl, sym, ap, _∙_}
-use mathlib.Core.List.{List}
+use mathlib.Core.{Bool.{Bool, true, false, _&&_}, Path.{_≡_, refl, sym, ap, _∙_}, List.List}
 use Prim.Native.Nat.{_+_, _-_, _/_, _≤_}
 use native.Mathlib.Omega.{arith}
-use borrow.Author.Needs.{needs}
-use borrow.Author.Tests.{not-false, not-true}
+use borrow.Author.{Needs.needs, Tests.{not-false, not-true}}
 use lib.ListN.{length, drop, drop-of-length-le}
-use Rattle.audit_model.specs.declared.Finished.{Finished}
-use Rattle.audit_model.specs.Audit.{accepted, allOf, apart, nobody, wellFormed}
+use Rattle.audit_model.specs.{declared.Finished.Finished, Audit.{accepted, allOf, apart, nobody, wellFormed}}
 use Rattle.audit_model.specs.LentHistory.{callsIn}
-use Rattle.audit.proofs.Loops.{passes, passes-turn}
-use Rattle.audit.proofs.Verdicts.{few-enough, too-many}
-use Rattle.audit.proofs.WordsRead.{count-is}
+use Rattle.audit.proofs.{Loops.{passes, passes-turn}, Verdicts.{few-enough, too-many}, WordsRead.count-is}
 use Rattle.audit.proofs.calls.accepted.Statement.{statement}
 use Rattle.audit.proofs.calls.accepted.Tie as tie
 

@@ -1,16 +1,11 @@
 -- No event of a call passed is the one call's; the rest is yet to be tested.
-use mathlib.Core.Bool.{Bool, true, false, _&&_}
-use mathlib.Core.Path.{_≡_, refl, sym, ap, _∙_}
+use mathlib.Core.{Bool.{Bool, true, false, _&&_}, Path.{_≡_, refl, sym, ap, _∙_}}
 use Prim.Native.Nat.{_+_, _-_, _/_, _≤_}
 use native.Mathlib.Omega.{arith}
-use borrow.Author.Needs.{needs}
-use borrow.Author.Tests.{not-false, not-true}
+use borrow.Author.{Needs.needs, Tests.{not-false, not-true}}
 use lib.ListN.{length, drop, drop-of-length-le}
-use Rattle.audit_model.specs.Audit.{allOf, apart, nobody}
-use Rattle.audit_model.specs.LentHistory.{callsIn}
-use Rattle.audit.proofs.Loops.{all-turn}
-use Rattle.audit.proofs.WordsRead.{count-is}
-use Rattle.audit.proofs.calls.apart_from.Statement.{statement}
+use Rattle.audit_model.specs.{Audit.{allOf, apart, nobody}, LentHistory.callsIn}
+use Rattle.audit.proofs.{Loops.all-turn, WordsRead.count-is, calls.apart_from.Statement.statement}
 use Rattle.audit.proofs.calls.apart_from.Tie as tie
 
 abbrev Inv-loop : tie.InvT-loop

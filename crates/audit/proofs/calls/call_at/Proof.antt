@@ -1,7 +1,6 @@
 -- The seven words of a call.
 use borrow.Author.Needs.{needs}
-use Rattle.audit.proofs.WordsRead.{read-is}
-use Rattle.audit.proofs.calls.call_at.Statement.{statement}
+use Rattle.audit.proofs.{WordsRead.read-is, calls.call_at.Statement.statement}
 use Rattle.audit.proofs.calls.call_at.Tie as tie
 
 returns : tie.Need-returns

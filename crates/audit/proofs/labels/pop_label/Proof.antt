@@ -1,18 +1,12 @@
 -- The last label is taken at the right, the first at the left.
-use mathlib.Core.Bool.{Bool, _&&_}
-use mathlib.Core.List.{List, map}
-use mathlib.Core.Path.{_≡_, sym, ap, _∙_}
+use mathlib.Core.{Bool.{Bool, _&&_}, List.{List, map}, Path.{_≡_, sym, ap, _∙_}}
 use Prim.Native.Nat.{ℕ, _+_, _-_, _/_}
 use native.Mathlib.Omega.{arith}
 use borrow.Author.Needs.{needs}
-use lib.Dec.{eqb}
-use lib.ListN.{length, getD, length-map, List·getD-map}
-use Rattle.audit_model.specs.declared.Finished.{Finished}
-use Rattle.audit_model.specs.Audit.{Given, agrees, nobody}
-use Rattle.audit_model.specs.LentHistory.{callsIn}
+use lib.{Dec.eqb, ListN.{length, getD, length-map, List·getD-map}}
+use Rattle.audit_model.specs.{declared.Finished.Finished, Audit.{Given, agrees, nobody}, LentHistory.callsIn}
 use Rattle.audit.specs.LabelQueue.{Holds, Moved, Serves, held, labelAt}
-use Rattle.audit.proofs.Buffer.{plain, pop-left, pop-none, pop-right}
-use Rattle.audit.proofs.labels.pop_label.Statement.{statement}
+use Rattle.audit.proofs.{Buffer.{plain, pop-left, pop-none, pop-right}, labels.pop_label.Statement.statement}
 use Rattle.audit.proofs.labels.pop_label.Tie as tie
 
 module _ (ws : List ℕ) (c : Finished) (low high : ℕ) (due : Given) (low′ high′ : ℕ) (b : List ℕ) (m : Moved low high low′ high′)

@@ -1,11 +1,9 @@
 -- At the right the index is stored behind the last, at the left before the first.
-use mathlib.Core.Path.{ap, _∙_}
-use mathlib.Core.List.{map}
+use mathlib.Core.{Path.{ap, _∙_}, List.map}
 use Prim.Native.Nat.{_+_, _-_}
 use native.Mathlib.Omega.{arith}
 use borrow.Author.Needs.{needs}
-use lib.ListN.{length-map}
-use lib.Seq.{slice}
+use lib.{ListN.length-map, Seq.slice}
 use Rattle.audit.proofs.Buffer.{holds-more, map-set, push-left, push-right}
 use Rattle.audit.proofs.labels.push_label.Statement.{statement}
 use Rattle.audit.proofs.labels.push_label.Tie as tie

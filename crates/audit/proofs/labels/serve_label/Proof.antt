@@ -2,16 +2,11 @@
 use mathlib.Core.Path.{_≡_, sym, subst}
 use Prim.Native.Nat.{_/_}
 use native.Mathlib.Omega.{arith}
-use borrow.Author.Needs.{needs}
-use borrow.Author.Tests.{eq-eqb, ne-eqb}
-use lib.Dec.{eqb}
-use lib.ListN.{length, getD}
-use Rattle.audit_model.specs.declared.Finished.{Finished}
-use Rattle.audit_model.specs.Audit.{gives, nobody, serveLabel}
-use Rattle.audit_model.specs.LentHistory.{callsIn}
+use borrow.Author.{Needs.needs, Tests.{eq-eqb, ne-eqb}}
+use lib.{Dec.eqb, ListN.{length, getD}}
+use Rattle.audit_model.specs.{declared.Finished.Finished, Audit.{gives, nobody, serveLabel}, LentHistory.callsIn}
 use Rattle.audit.specs.LabelQueue.{Put, Serves, held, labelAt}
-use Rattle.audit.proofs.Buffer.{plain}
-use Rattle.audit.proofs.labels.serve_label.Statement.{statement}
+use Rattle.audit.proofs.{Buffer.plain, labels.serve_label.Statement.statement}
 use Rattle.audit.proofs.labels.serve_label.Tie as tie
 
 returns : tie.Need-returns

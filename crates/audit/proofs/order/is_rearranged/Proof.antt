@@ -1,28 +1,22 @@
--- The numbers behind position i are of calls, none is named twice, and those named have their marks set.
-use mathlib.Core.Bool.{Bool, true, false, _&&_, not}
-use mathlib.Core.Path.{_≡_, refl, sym, ap, _∙_, subst}
-use mathlib.Core.List.{List, [], _∷_}
+-- The numbers behind position i are of calls, none is listed twice, and those listed have their marks set.
+use mathlib.Core.{Bool.{Bool, true, false, _&&_, not}, Path.{_≡_, refl, sym, ap, _∙_, subst}, List.{List, [], _∷_}}
 use Prim.Native.Nat.{ℕ, _+_, _-_, _≤_}
 use native.Mathlib.Omega.{arith}
-use borrow.Author.Needs.{needs}
-use borrow.Author.Tests.{not-false, not-true}
+use borrow.Author.{Needs.needs, Tests.{not-false, not-true}}
 use lib.ListN.{length, getD, drop, drop-of-length-le, length-set}
-use Rattle.model.specs.Sound.{from1}
-use Rattle.model.specs.Tables.{withMark}
+use Rattle.model.specs.{Sound.from1, Tables.withMark}
 use Rattle.audit_model.specs.Audit.{allOf, differ}
-use Rattle.audit.proofs.Loops.{drop-next, passes, passes-turn}
-use Rattle.audit.proofs.Named.{Named, none-named, one-more}
-use Rattle.audit.proofs.Verdicts.{another-length, not-rearranged, same-length}
-use Rattle.audit.proofs.WordsRead.{within}
+use Rattle.audit.proofs.{Loops.{drop-next, passes, passes-turn}, Listed.{Listed, none-listed, one-more}}
+use Rattle.audit.proofs.{Verdicts.{another-length, not-rearranged, same-length}, WordsRead.within}
 use Rattle.audit.proofs.order.is_rearranged.Statement.{statement}
 use Rattle.audit.proofs.order.is_rearranged.Tie as tie
 
 abbrev Inv-loop : tie.InvT-loop
-Inv-loop order n named₀ i₀ named i =
-    (i ≤ n) × (length named ≡ 1) × (passes (from1 n) differ (drop i order) ≡ true) × Named named (drop i order)
+Inv-loop order n named₀ i₀ listed i =
+    (i ≤ n) × (length listed ≡ 1) × (passes (from1 n) differ (drop i order) ≡ true) × Listed listed (drop i order)
 
 abbrev μ-loop : tie.MeasureT-loop
-μ-loop order n named₀ i₀ named i = i
+μ-loop order n named₀ i₀ listed i = i
 
 returns : tie.Need-returns Inv-loop μ-loop
 returns c = let args = c .before .before .args in another-length (args .order .now) (args .n) (c .if1 .taken)
@@ -33,7 +27,7 @@ loop-holds c =
     let len = c .if1 .left in
     let end : length (args .order .now) ≤ args .n = omega arith in
     let none = drop-of-length-le (args .order .now) end in
-    (search needs, refl, ap (passes (from1 (args .n)) differ) none, subst (Named (0 ∷ [])) (sym none) none-named)
+    (search needs, refl, ap (passes (from1 (args .n)) differ) none, subst (Listed (0 ∷ [])) (sym none) none-listed)
 
 -- A turn: the number at index j, with those behind it.
 module _ (c : tie.After-known Inv-loop μ-loop) where
@@ -61,8 +55,8 @@ module _ (c : tie.After-known Inv-loop μ-loop) where
   behind : passes (from1 n) differ (drop (j + 1) ks) ≡ true
   behind = ap (λ (m : ℕ). passes (from1 n) differ (drop m ks)) (index .0) ∙ at .loop .inv .2
 
-  named : Named (at .loop .named) (drop (j + 1) ks)
-  named = subst (λ (m : ℕ). Named (at .loop .named) (drop m ks)) (sym (index .0)) (at .loop .inv .3)
+  listed : Listed (at .loop .listed) (drop (j + 1) ks)
+  listed = subst (λ (m : ℕ). Listed (at .loop .listed) (drop m ks)) (sym (index .0)) (at .loop .inv .3)
 
   turn : (a b : Bool) → c .known .result ≡ a → allOf (differ (getD ks j 0)) (drop (j + 1) ks) ≡ b
       → passes (from1 n) differ (drop j ks) ≡ a && (b && passes (from1 n) differ (drop (j + 1) ks))
@@ -79,7 +73,7 @@ returns-2 c =
     let k = c .before in
     not-rearranged (ks k) (n k) (j k) (len k) (turn k false _ (not-true (k .known .result) (c .if2 .taken)) refl)
 
--- The number is a call's; whether it was named.
+-- The number is a call's; whether it was listed.
 abbrev sound : (c : tie.Else2 Inv-loop μ-loop) → c .before .known .result ≡ true
 sound c = not-false (c .before .known .result) (c .if2 .left)
 
@@ -88,7 +82,7 @@ told : (c : tie.After-marked Inv-loop μ-loop) → let k = c .before .before .be
 told c =
     let k = c .before .before .before in
     let known = bounds k (sound (c .before .before)) in
-    c .marked .ensures ∙ named k (getD (ks k) (j k) 0) (known .0) (known .1)
+    c .marked .ensures ∙ listed k (getD (ks k) (j k) 0) (known .0) (known .1)
 
 returns-3 : tie.Need-returns-3 Inv-loop μ-loop
 returns-3 c =
@@ -105,11 +99,11 @@ loop-again c =
     let inv = at k .loop .inv in
     let x = getD (ks k) (j k) 0 in (
       omega arith,
-      ap length put ∙ length-set (at k .loop .named) _ _ ∙ inv .1,
+      ap length put ∙ length-set (at k .loop .listed) _ _ ∙ inv .1,
       turn k true true (sound (asked .before .before)) (not-false _ (sym (told asked) ∙ c .before .before .before .if3 .left)) ∙ behind k,
-      subst (λ (marks : List ℕ). Named marks (drop (j k) (ks k))) (sym put)
-          (subst (Named (withMark (at k .loop .named) (x - 1) 1)) (sym (drop-next (ks k) (j k) 0 (let z = index k .1 in omega arith)))
-          (one-more (at k .loop .named) (drop (j k + 1) (ks k)) x (inv .1) (known .0) (known .1) (named k))),
+      subst (λ (marks : List ℕ). Listed marks (drop (j k) (ks k))) (sym put)
+          (subst (Listed (withMark (at k .loop .listed) (x - 1) 1)) (sym (drop-next (ks k) (j k) 0 (let z = index k .1 in omega arith)))
+          (one-more (at k .loop .listed) (drop (j k + 1) (ks k)) x (inv .1) (known .0) (known .1) (listed k))),
     )
 
 returns-4 : tie.Need-returns-4 Inv-loop μ-loop

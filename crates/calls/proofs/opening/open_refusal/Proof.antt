@@ -1,7 +1,6 @@
 -- The tests are the rules', in their order.
 use Rattle.model.proofs.tests.Rules.{none, stop, pass}
-use Rattle.calls.proofs.InOrder.{opening-tried}
-use Rattle.calls.proofs.opening.open_refusal.Statement.{statement}
+use Rattle.calls.proofs.{InOrder.opening-tried, opening.open_refusal.Statement.statement}
 use Rattle.calls.proofs.opening.open_refusal.Tie as tie
 
 returns : tie.Need-returns

@@ -1,13 +1,10 @@
 -- Turned away before it is asked anything, or the tests are the rules', in their order.
-use mathlib.Core.Path.{_≡_, ap}
-use mathlib.Core.Bool.{Bool, not}
+use mathlib.Core.{Path.{_≡_, ap}, Bool.{Bool, not}}
 use Prim.Native.Nat.{ℕ}
-use borrow.Author.Needs.{needs}
-use borrow.Author.Tests.{le-leb, lt-leb}
-use Rattle.model.specs.Refusals.{Lent, admission, startRefusal}
-use Rattle.model.proofs.tests.Rules.{Tried, stop, pass}
-use Rattle.calls.proofs.InOrder.{turned-away, then-asked, from-record, recordOn, of-busy, of-free, of-taken, of-late}
-use Rattle.calls.proofs.refusal.start_refusal.Statement.{statement}
+use borrow.Author.{Needs.needs, Tests.{le-leb, lt-leb}}
+use Rattle.model.{specs.Refusals.{Lent, admission, startRefusal}, proofs.tests.Rules.{Tried, stop, pass}}
+use Rattle.calls.proofs.InOrder.{turned-away, then-asked, from-record, recordOn, of-busy, of-free, of-taken}
+use Rattle.calls.proofs.{InOrder.of-late, refusal.start_refusal.Statement.statement}
 use Rattle.calls.proofs.refusal.start_refusal.Tie as tie
 
 returns : tie.Need-returns

@@ -1,15 +1,11 @@
 -- Refused before the walk, by the walk, or told: what each call ensures.
-use mathlib.Core.Path.{_≡_, sym, _∙_}
-use mathlib.Core.Bool.{Bool}
+use mathlib.Core.{Path.{_≡_, sym, _∙_}, Bool.Bool}
 use lib.Dec.{leb}
 use borrow.Author.Needs.{needs}
-use Rattle.model.specs.Tables.{Tables, tablesOf}
-use Rattle.model.specs.Walk.{contents}
+use Rattle.model.specs.{Tables.{Tables, tablesOf}, Walk.contents, Sound.rowsFit}
 use Rattle.walk.specs.Counted.{counted}
 use Rattle.sound.specs.Lengths.{lengthsFit}
-use Rattle.model.specs.Sound.{rowsFit}
-use Rattle.calls.proofs.Tells.{refused, astray, tells, why}
-use Rattle.calls.proofs.report.told.Statement.{statement}
+use Rattle.calls.proofs.{Tells.{refused, astray, tells, why}, report.told.Statement.statement}
 use Rattle.calls.proofs.report.told.Tie as tie
 
 -- What the call was given, where the first two rules have been tried.

@@ -1,7 +1,6 @@
 -- Refused: everything is as it was. Accepted: what each call ensures.
 use mathlib.Core.Path.{_≡_}
-use borrow.Author.Needs.{needs}
-use borrow.Author.Tests.{eq-eqb, ne-eqb}
+use borrow.Author.{Needs.needs, Tests.{eq-eqb, ne-eqb}}
 use Rattle.calls.specs.Starting.{pushRefusedBy}
 use Rattle.calls.proofs.start.push_start.Statement.{statement}
 use Rattle.calls.proofs.start.push_start.Tie as tie

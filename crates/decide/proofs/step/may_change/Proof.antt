@@ -5,7 +5,7 @@ use Rattle.decide.proofs.step.may_change.Tie as tie
 
 returns : tie.Need-returns
 unfolding mayChange
-returns c = simp (c .before .anchor-sound .ensures, c .before .before .unpack .ensures)
+returns c = rw (c .has-room .ensures, c .before .anchor-sound .ensures)
 
 pub may-change-spec : {M : Type 1} → statement M
 may-change-spec = tie.close (tie.spec (λ _ _. tt) (λ _ _. tt) returns)

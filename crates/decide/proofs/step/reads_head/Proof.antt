@@ -1,10 +1,8 @@
 -- The head is sound and its slot leads on, or it is refused.
-use mathlib.Core.Path.{_≡_, refl, sym, ap, _∙_}
-use mathlib.Core.Bool.{Bool, true, false, cond}
+use mathlib.Core.{Path.{_≡_, refl, sym, ap, _∙_}, Bool.{Bool, true, false, cond}}
 use Prim.Native.Nat.{ℕ}
 use lib.Dec.{eqb}
-use Rattle.word.specs.declared.Link.{Link}
-use Rattle.word.specs.Link.{linkOf}
+use Rattle.word.specs.{declared.Link.Link, Link.linkOf}
 use Rattle.model.specs.declared.{Control.Control, Call.Call, Transition.Transition}
 use Rattle.decide.specs.Ending.{headRead, settled, noEntry}
 use Rattle.decide.proofs.step.reads_head.Statement.{statement}

@@ -1,6 +1,5 @@
 -- Each return is a case of `linkRead`.
-use mathlib.Core.Path.{_≡_, sym, _∙_}
-use mathlib.Core.Bool.{true}
+use mathlib.Core.{Path.{_≡_, sym, _∙_}, Bool.true}
 use borrow.Author.Tests.{eq-eqb, ne-eqb}
 use Rattle.decide.specs.Ending.{rowSound, linkRead}
 use Rattle.decide.proofs.step.reads_link.Statement.{statement}

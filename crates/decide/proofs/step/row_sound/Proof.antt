@@ -5,7 +5,7 @@ use Rattle.decide.proofs.step.row_sound.Tie as tie
 
 returns : tie.Need-returns
 unfolding rowSound
-returns c = rw (c .link-sound .ensures, c .before .from1 .ensures)
+returns c = rw (c .link-sound .ensures, c .before .is-slot .ensures)
 
 pub row-sound-spec : {M : Type 1} → statement M
 row-sound-spec =

@@ -1,31 +1,17 @@
 -- What is to be said of a step over lent records: refused, all is as it was; admitted, its task's record is moved on.
-use mathlib.Core.Path.{_≡_, sym, ap, _∙_}
+use mathlib.Core.{Path.{_≡_, sym, ap, _∙_}, Bool.not, List.List}
 use Prim.Native.Nat.{ℕ, _<_, _≤_}
-use mathlib.Core.Bool.{not}
-use mathlib.Core.List.{List}
 use native.Mathlib.Omega.{arith}
-use lib.ListN.{length, set}
-use lib.Dec.{T, T-not, eqb}
-use lib.Seq.{set-getD}
+use lib.{ListN.{length, set}, Dec.{T, T-not, eqb}, Seq.set-getD}
 use borrow.Author.Tests.{leb-true, ltb-true, eqb-true, not-false}
 use denote.Ref.{RefT}
-use Rattle.model.specs.declared.Control.{Control}
-use Rattle.model.specs.declared.Record.{Record}
-use Rattle.model.specs.declared.Outcome.{Outcome}
-use Rattle.model.specs.declared.Outcome.the-variants.{Refused}
-use Rattle.model.specs.declared.Op.the-variants.{Step}
+use Rattle.model.specs.declared.{Control.Control, Record.Record, Outcome.{Outcome, the-variants.Refused}}
+use Rattle.model.specs.{declared.Op.the-variants.Step, Tables.{Tables, Queue, taskAt, unused}, Sound.rowsFit}
+use Rattle.model.specs.{Refusals.among, Calls.{Done, back, act, actOn}}
 use Rattle.rows.specs.declared.value.Stepped.{Stepped}
-use Rattle.model.specs.Tables.{Tables, Queue, taskAt, unused}
-use Rattle.model.specs.Sound.{rowsFit}
-use Rattle.model.specs.Refusals.{among}
-use Rattle.model.specs.Calls.{Done, back, act, actOn}
-use Rattle.sound.specs.declared.Lengths.{Lengths}
-use Rattle.sound.specs.Lengths.{lengthsOf, lengthsFit}
-use Rattle.engine.specs.MoveOn.{moveOn}
-use Rattle.engine.proofs.InParts.{turned-away, admitted, task-there}
-use Rattle.deque.proofs.Walk.{fails}
-use Rattle.deque.proofs.Admission.{reason}
-use Rattle.deque.proofs.Engine.{Five, tabled, unwritten, Leaves}
+use Rattle.sound.specs.{declared.Lengths.Lengths, Lengths.{lengthsOf, lengthsFit}}
+use Rattle.engine.{specs.StepAdmitted.stepAdmitted, proofs.InParts.{turned-away, admitted, task-there}}
+use Rattle.deque.proofs.{Walk.fails, Admission.reason, Engine.{Five, tabled, unwritten, Leaves}}
 
 -- The test `why != 0`.
 pub nonzero : (why : ℕ) → T (not (eqb why 0)) → why ≡ 0 → ⊥
@@ -69,6 +55,6 @@ module _ (c : Control) (rs : List Record) (task : ℕ) (xs : Five (RefT (List �
       let known : task < c .tasks = ltb-true _ _ (both .1) in
       omega arith
 
-  pub moved : (m : Stepped) (ls : Five (List ℕ)) → fault ≡ 0 → Leaves moveOn c r xs m ls → Said (m .outcome) (m .control) (set rs task (m .task)) ls
+  pub moved : (m : Stepped) (ls : Five (List ℕ)) → fault ≡ 0 → Leaves stepAdmitted c r xs m ls → Said (m .outcome) (m .control) (set rs task (m .task)) ls
   unfolding act actOn rowsFit lengthsFit
   moved m ls h e = ap (back queue task) (e ∙ admitted entry (among queue task) r h)

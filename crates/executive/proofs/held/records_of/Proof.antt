@@ -1,9 +1,7 @@
 -- The records are those of the two rows.
-use mathlib.Core.Path.{_∙_}
-use mathlib.Core.List.{[], _∷_}
-use Rattle.executive.proofs.Pair.{pair-records}
+use mathlib.Core.{Path._∙_, List.{[], _∷_}}
+use Rattle.executive.proofs.{Pair.pair-records, held.records_of.Statement.statement}
 use borrow.Author.Needs.{needs}
-use Rattle.executive.proofs.held.records_of.Statement.{statement}
 use Rattle.executive.proofs.held.records_of.Tie as tie
 
 returns : tie.Need-returns

@@ -1,10 +1,8 @@
 -- The rows are those of the two records.
-use mathlib.Core.Path.{_∙_}
-use mathlib.Core.List.{[], _∷_}
+use mathlib.Core.{Path._∙_, List.{[], _∷_}}
 use Rattle.rows.specs.Rows.{recordsOf}
-use Rattle.executive.proofs.Pair.{pair-of}
+use Rattle.executive.proofs.{Pair.pair-of, held.rows_of.Statement.statement}
 use borrow.Author.Needs.{needs}
-use Rattle.executive.proofs.held.rows_of.Statement.{statement}
 use Rattle.executive.proofs.held.rows_of.Tie as tie
 
 returns : tie.Need-returns

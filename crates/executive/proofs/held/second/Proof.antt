@@ -3,8 +3,7 @@ use Prim.Native.Nat.{_<_}
 use borrow.Author.Needs.{needs}
 use lib.ListN.{length}
 use Rattle.model.specs.Tables.{unused}
-use Rattle.executive.proofs.Pair.{any-default}
-use Rattle.executive.proofs.held.second.Statement.{statement}
+use Rattle.executive.proofs.{Pair.any-default, held.second.Statement.statement}
 use Rattle.executive.proofs.held.second.Tie as tie
 
 returns : tie.Need-returns

@@ -1,7 +1,6 @@
 -- The start over rows is the start.
-use Rattle.executive.proofs.Pair.{started}
+use Rattle.executive.proofs.{Pair.started, held.start.Statement.statement}
 use borrow.Author.Needs.{needs}
-use Rattle.executive.proofs.held.start.Statement.{statement}
 use Rattle.executive.proofs.held.start.Tie as tie
 
 returns : tie.Need-returns

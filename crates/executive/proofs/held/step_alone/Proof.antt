@@ -1,7 +1,6 @@
 -- The record lent alone is put back.
-use Rattle.executive.proofs.Pair.{lent-back}
+use Rattle.executive.proofs.{Pair.lent-back, held.step_alone.Statement.statement}
 use borrow.Author.Needs.{needs}
-use Rattle.executive.proofs.held.step_alone.Statement.{statement}
 use Rattle.executive.proofs.held.step_alone.Tie as tie
 
 returns : tie.Need-returns

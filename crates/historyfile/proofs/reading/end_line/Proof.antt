@@ -1,7 +1,6 @@
 -- A fault stays; a call has seven words.
-use borrow.Author.Tests.{eq-eqb, ne-eqb}
+use borrow.Author.{Tests.{eq-eqb, ne-eqb}, Needs.needs}
 use Rattle.historyfile.specs.Reading.{endedLine}
-use borrow.Author.Needs.{needs}
 use Rattle.historyfile.proofs.reading.end_line.Statement.{statement}
 use Rattle.historyfile.proofs.reading.end_line.Tie as tie
 

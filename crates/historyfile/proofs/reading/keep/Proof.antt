@@ -1,9 +1,8 @@
 -- No number, no room, or one number more.
 use native.Mathlib.Omega.{arith}
-use Rattle.historyfile.proofs.Held.{none-fits, none-given, one-more}
-use Rattle.historyfile.proofs.Rest.{one-written, unwritten}
-use borrow.Author.Needs.{needs}
+use Rattle.historyfile.proofs.{Held.{none-fits, none-given, one-more}, Rest.{one-written, unwritten}}
 use Rattle.historyfile.proofs.reading.keep.Statement.{statement}
+use borrow.Author.Needs.{needs}
 use Rattle.historyfile.proofs.reading.keep.Tie as tie
 
 returns : tie.Need-returns

@@ -1,7 +1,6 @@
 -- Columns end at the order.
-use borrow.Author.Tests.{le-ltb, lt-ltb}
+use borrow.Author.{Tests.{le-ltb, lt-ltb}, Needs.needs}
 use Rattle.historyfile.specs.Reading.{nextColumn}
-use borrow.Author.Needs.{needs}
 use Rattle.historyfile.proofs.reading.next_column.Statement.{statement}
 use Rattle.historyfile.proofs.reading.next_column.Tie as tie
 

@@ -1,6 +1,5 @@
 -- Behind the last word of a call comes the first column.
-use borrow.Author.Tests.{eq-eqb, ne-eqb}
-use borrow.Author.Needs.{needs}
+use borrow.Author.{Tests.{eq-eqb, ne-eqb}, Needs.needs}
 use Rattle.historyfile.proofs.reading.next_line.Statement.{statement}
 use Rattle.historyfile.proofs.reading.next_line.Tie as tie
 

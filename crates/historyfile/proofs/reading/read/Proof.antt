@@ -4,11 +4,8 @@ use lib.ListN.{length, take, drop}
 use native.Mathlib.Omega.{arith}
 use Prim.Native.Nat.{ℕ, _+_, _-_, _≤_}
 use mathlib.Core.Path.{_≡_, refl, sym, ap, subst, _∙_}
-use Rattle.historyfile.specs.declared.reading.State.{State}
-use Rattle.historyfile.specs.Reading.{whole}
-use Rattle.historyfile.specs.Buffer.{Within, Written, ahead, held}
-use Rattle.historyfile.proofs.Ahead.{same-within, text-ends}
-use Rattle.historyfile.proofs.Rest.{then-written, unwritten}
+use Rattle.historyfile.specs.{declared.reading.State.State, Reading.whole, Buffer.{Within, Written, ahead, held}}
+use Rattle.historyfile.proofs.{Ahead.{same-within, text-ends}, Rest.{then-written, unwritten}}
 use Rattle.historyfile.proofs.reading.read.Statement.{statement}
 use Rattle.historyfile.proofs.reading.read.Tie as tie
 

@@ -1,7 +1,6 @@
 -- The end of a line, or another byte.
-use borrow.Author.Tests.{eq-eqb, ne-eqb}
+use borrow.Author.{Tests.{eq-eqb, ne-eqb}, Needs.needs}
 use Rattle.historyfile.specs.Buffer.{separated}
-use borrow.Author.Needs.{needs}
 use Rattle.historyfile.proofs.reading.separate.Statement.{statement}
 use Rattle.historyfile.proofs.reading.separate.Tie as tie
 

@@ -3,12 +3,10 @@ use lib.ListN.{length}
 use native.Mathlib.Omega.{arith}
 use Prim.Native.Nat.{_+_, _≤_}
 use mathlib.Core.Path.{sym, ap, subst, _∙_}
-use Rattle.historyfile.specs.declared.reading.State.{State}
-use Rattle.historyfile.specs.Buffer.{BothWritten, Within, ahead}
+use Rattle.historyfile.specs.{declared.reading.State.State, Buffer.{BothWritten, Within, ahead}}
 use Rattle.historyfile.proofs.Ahead.{separated-within, word-ends, word-goes-on}
-use Rattle.historyfile.proofs.Rest.{none-written, separated-written}
+use Rattle.historyfile.proofs.{Rest.{none-written, separated-written}, reading.take_byte.Statement.statement}
 use borrow.Author.Needs.{needs}
-use Rattle.historyfile.proofs.reading.take_byte.Statement.{statement}
 use Rattle.historyfile.proofs.reading.take_byte.Tie as tie
 
 returns : tie.Need-returns

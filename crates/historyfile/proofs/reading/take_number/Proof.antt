@@ -1,12 +1,8 @@
 -- `-` stands for a label only with empty.
-use mathlib.Core.Bool.{true, false}
-use mathlib.Core.Path.{_≡_}
+use mathlib.Core.{Bool.{true, false}, Path._≡_}
 use Prim.Native.Nat.{ℕ}
-use Rattle.historyfile.specs.declared.reading.Place.{Place}
-use Rattle.historyfile.specs.declared.reading.Turn.{Turn}
-use Rattle.historyfile.specs.declared.words.Meaning.the-variants.{Number}
-use Rattle.historyfile.specs.Reading.{lacksLabel, numbered, stopped, turned}
-use Rattle.historyfile.specs.Words.{unlabelled}
+use Rattle.historyfile.specs.declared.{reading.{Place.Place, Turn.Turn}, words.Meaning.the-variants.Number}
+use Rattle.historyfile.specs.{Reading.{lacksLabel, numbered, stopped, turned}, Words.unlabelled}
 use borrow.Author.Needs.{needs}
 use Rattle.historyfile.proofs.reading.take_number.Statement.{statement}
 use Rattle.historyfile.proofs.reading.take_number.Tie as tie

@@ -1,13 +1,10 @@
 -- No word, or what it says.
 use lib.ListN.{length}
 use mathlib.Core.Path.{refl, ap, _∙_}
-use Rattle.historyfile.specs.declared.reading.Turn.{Turn}
-use Rattle.historyfile.specs.Reading.{kept}
-use Rattle.historyfile.specs.Buffer.{held, reading}
-use Rattle.historyfile.proofs.Held.{word-none, word-some}
-use Rattle.historyfile.proofs.Rest.{none-written}
-use borrow.Author.Needs.{needs}
+use Rattle.historyfile.specs.{declared.reading.Turn.Turn, Reading.kept, Buffer.{held, reading}}
+use Rattle.historyfile.proofs.{Held.{word-none, word-some}, Rest.none-written}
 use Rattle.historyfile.proofs.reading.take_word.Statement.{statement}
+use borrow.Author.Needs.{needs}
 use Rattle.historyfile.proofs.reading.take_word.Tie as tie
 
 returns : tie.Need-returns

@@ -1,13 +1,11 @@
 -- A word is of digits where what is left of it is.
-use borrow.Author.Needs.{needs}
-use borrow.Author.Tests.{not-false, not-true}
+use borrow.Author.{Needs.needs, Tests.{not-false, not-true}}
 use lib.ListN.{drop-of-length-le, length, drop}
-use Rattle.historyfile.proofs.Digits.{digits-more}
+use Rattle.historyfile.proofs.{Digits.digits-more, words.all_digits.Statement.statement}
 use Rattle.historyfile.specs.Words.{allDigits}
 use Prim.Native.Nat.{_-_, _≤_}
 use mathlib.Core.Path.{_≡_, refl, sym, ap, _∙_}
 use native.Mathlib.Omega.{arith}
-use Rattle.historyfile.proofs.words.all_digits.Statement.{statement}
 use Rattle.historyfile.proofs.words.all_digits.Tie as tie
 
 abbrev Inv-loop : tie.InvT-loop

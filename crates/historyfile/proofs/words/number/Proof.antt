@@ -1,15 +1,13 @@
-use borrow.Author.Needs.{needs}
-use borrow.Author.Tests.{eq-eqb, le-ltb, lt-ltb, ne-eqb, not-false, not-true}
+use borrow.Author.{Needs.needs, Tests.{eq-eqb, le-ltb, lt-ltb, ne-eqb, not-false, not-true}}
 use Rattle.model.proofs.tests.Truth.{and-true}
 use Rattle.historyfile.proofs.Digits.{digit-from, digit-to, digits-more, grows, no-room, room, valued-more}
+use Rattle.historyfile.proofs.words.number.Statement.{statement}
 use Rattle.historyfile.specs.Words.{allDigits, isDigit, number, valued}
-use mathlib.Core.Bool.{true}
 use Rattle.historyfile.specs.declared.words.Meaning.the-variants.{Number}
+use mathlib.Core.{Bool.true, Path.{_≡_, refl, sym, ap, _∙_}}
 use lib.ListN.{length, getD, drop, drop-of-length-le}
 use Prim.Native.Nat.{_+_, _-_, _*_, _^_, _≤_, _<_}
-use mathlib.Core.Path.{_≡_, refl, sym, ap, _∙_}
 use native.Mathlib.Omega.{arith}
-use Rattle.historyfile.proofs.words.number.Statement.{statement}
 use Rattle.historyfile.proofs.words.number.Tie as tie
 
 abbrev Inv-loop : tie.InvT-loop

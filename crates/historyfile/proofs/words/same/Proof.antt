@@ -1,13 +1,11 @@
 -- Two words are the same where what is left of them is.
-use borrow.Author.Needs.{needs}
-use borrow.Author.Tests.{eq-eqb, ne-eqb}
-use Rattle.historyfile.proofs.Names.{other-length, same-end, same-more}
+use borrow.Author.{Needs.needs, Tests.{eq-eqb, ne-eqb}}
+use Rattle.historyfile.proofs.{Names.{other-length, same-end, same-more}, words.same.Statement.statement}
 use Rattle.historyfile.specs.Words as meaning
 use lib.ListN.{length, drop}
 use Prim.Native.Nat.{_-_, _≤_}
 use mathlib.Core.Path.{_≡_, refl, sym, _∙_}
 use native.Mathlib.Omega.{arith}
-use Rattle.historyfile.proofs.words.same.Statement.{statement}
 use Rattle.historyfile.proofs.words.same.Tie as tie
 
 abbrev Inv-loop : tie.InvT-loop

@@ -1,8 +1,7 @@
 -- A number, a word too many, or a word of the column.
-use borrow.Author.Tests.{eq-eqb, ne-eqb}
+use borrow.Author.{Tests.{eq-eqb, ne-eqb}, Needs.needs}
 use Rattle.historyfile.specs.Words.{says}
 use mathlib.Core.Path.{sym, _∙_}
-use borrow.Author.Needs.{needs}
 use Rattle.historyfile.proofs.words.says.Statement.{statement}
 use Rattle.historyfile.proofs.words.says.Tie as tie
 

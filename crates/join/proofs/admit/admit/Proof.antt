@@ -1,45 +1,38 @@
 -- Each stage of the rules, on the queues that the call was given.
-use mathlib.Core.Path.{_≡_, sym, subst, _∙_}
-use mathlib.Core.Bool.{_&&_}
-use mathlib.Core.List.{List, [], _∷_}
+use mathlib.Core.{Path.{_≡_, sym, subst, _∙_}, Bool._&&_, List.{List, [], _∷_}}
 use Prim.Native.Nat.{ℕ, _/_}
-use lib.Dec.{ltb}
-use lib.ListN.{length}
-use Rattle.model.specs.Tables.{Queue, queueOf}
-use Rattle.model.specs.Sound.{controlSound}
-use Rattle.model.specs.Walk.{contents}
-use Rattle.model.specs.Lists.{every}
+use lib.{Dec.ltb, ListN.length}
+use Rattle.model.specs.{Tables.{Queue, queueOf}, Sound.controlSound, Walk.contents, Lists.every}
 use Rattle.walk.specs.Counted.{counted}
 use Rattle.rows.specs.Rows.{recordsOf}
 use Rattle.join_model.specs.Join.{thirdFits}
-use Rattle.join.specs.Stages.{testsRefusal}
-use Rattle.join.specs.Admits.{walked, Admits}
+use Rattle.join.specs.{Stages.testsRefusal, Admits.{walked, Admits}}
 use Rattle.join.proofs.Admitting.{fits-is, why, turned-away, small, lost, met-all, decided}
 use Rattle.join.proofs.admit.admit.Statement.{statement}
 use Rattle.join.proofs.admit.admit.Tie as tie
 
 -- The three tests of lengths, and what the call was given.
-abbrev fit : tie.After-early-rules → tie.After-lengths-fit
+abbrev fit : tie.After-table-rules → tie.After-lengths-fit
 fit w = w .before .before .before .before
 
-abbrev start : tie.After-early-rules → tie.Start
+abbrev start : tie.After-table-rules → tie.Start
 start w = let k = fit w .before .before .before .before in let l = k .before .before .before .before in l .before .before .before
 
 -- The queues that it was given, with any marks and next tables where none are lent.
-abbrev one : List ℕ → List ℕ → tie.After-early-rules → Queue
+abbrev one : List ℕ → List ℕ → tie.After-table-rules → Queue
 one marks next w =
     let a = start w .args in queueOf (a .first) (recordsOf (a .records1 .now)) (a .lefts1 .now) (a .rights1 .now) (a .labels1 .now) marks next
 
-abbrev two : List ℕ → List ℕ → tie.After-early-rules → Queue
+abbrev two : List ℕ → List ℕ → tie.After-table-rules → Queue
 two marks next w =
     let a = start w .args in queueOf (a .second) (recordsOf (a .records2 .now)) (a .lefts2 .now) (a .rights2 .now) (a .labels2 .now) marks next
 
-abbrev third : List ℕ → tie.After-early-rules → Queue
+abbrev third : List ℕ → tie.After-table-rules → Queue
 third next w =
     let a = start w .args in queueOf (a .third) (recordsOf (a .records .now)) (a .lefts .now) (a .rights .now) (a .labels .now) (a .marks .now) next
 
 module _ (marks1 next1 marks2 next2 next : List ℕ) where
-  tried : (w : tie.After-early-rules) → w .early-rules .result ≡ why (one marks1 next1 w) (two marks2 next2 w) (third next w)
+  tried : (w : tie.After-table-rules) → w .table-rules .result ≡ why (one marks1 next1 w) (two marks2 next2 w) (third next w)
   unfolding thirdFits
   tried w =
       let a = start w .args in
@@ -48,7 +41,7 @@ module _ (marks1 next1 marks2 next2 next : List ℕ) where
       (a .labels2 .now) [] marks2 next2 in
       let e3 = w .before .before .lengths-fit3 .ensures ∙ fits-is (a .third) (a .records .now) (a .lefts .now) (a .rights .now) (a .labels .now)
       (a .marks .now) (a .marks .now) next in
-      w .early-rules .ensures
+      w .table-rules .ensures
       ∙ (λ i. testsRefusal (controlSound (a .first)) (controlSound (a .second)) (controlSound (a .third))
       (every (e1 i ∷ e2 i ∷ (e3 i && ltb (a .third .slots / 64) (length (a .marks .now))) ∷ [])))
 
@@ -63,7 +56,7 @@ module _ (v : tie.After-walks) where
   abbrev passed : tie.Else1
   passed = v .before
 
-  abbrev tests : tie.After-early-rules
+  abbrev tests : tie.After-table-rules
   tests = passed .before
 
   said : (marks1 next1 marks2 next2 : List ℕ)

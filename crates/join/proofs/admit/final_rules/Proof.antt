@@ -1,6 +1,5 @@
 -- The tests of the queues, then the tag.
-use mathlib.Core.Path.{_∙_}
-use mathlib.Core.List.{[], _∷_}
+use mathlib.Core.{Path._∙_, List.{[], _∷_}}
 use Prim.Native.Nat.{_+_}
 use lib.Dec.{ltb}
 use borrow.Author.Needs.{needs}

@@ -1,11 +1,9 @@
 -- No push, one, or more: with the tag's room left for the last start.
-use mathlib.Core.Path.{_≡_}
-use mathlib.Core.Bool.{true}
+use mathlib.Core.{Path._≡_, Bool.true}
 use Prim.Native.Nat.{ℕ, _-_, _*_, _<_, _≤_}
 use native.Mathlib.Omega.{arith}
 use lib.Dec.{eqb, ltb}
-use borrow.Author.Needs.{needs}
-use borrow.Author.Tests.{ne-eqb, eqb-false, lt-ltb, le-ltb, ltb-true}
+use borrow.Author.{Needs.needs, Tests.{ne-eqb, eqb-false, lt-ltb, le-ltb, ltb-true}}
 use Rattle.model.proofs.tests.Truth.{agree, split}
 use Rattle.join_model.specs.Closed.{lateFor, tagAfter}
 use Rattle.join.proofs.admit.late.Statement.{statement}

@@ -1,12 +1,10 @@
 -- The first test that fails.
-use mathlib.Core.Path.{_≡_, sym, _∙_}
-use mathlib.Core.Bool.{false}
+use mathlib.Core.{Path.{_≡_, sym, _∙_}, Bool.false}
 use Prim.Native.Nat.{_+_}
 use lib.Dec.{ltb}
 use Rattle.join.specs.Stages.{laterRefusal}
 use native.Mathlib.Omega.{arith}
-use borrow.Author.Needs.{needs}
-use borrow.Author.Tests.{lt-ltb, le-ltb}
+use borrow.Author.{Needs.needs, Tests.{lt-ltb, le-ltb}}
 use Rattle.join.proofs.admit.later_refusal.Statement.{statement}
 use Rattle.join.proofs.admit.later_refusal.Tie as tie
 

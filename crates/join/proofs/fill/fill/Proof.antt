@@ -1,11 +1,10 @@
 -- Gathered twice, merged, linked up.
-use mathlib.Core.Path.{ap, _∙_}
+use mathlib.Core.Path.{sym, ap, subst, _∙_}
 use Prim.Native.Nat.{_+_}
 use borrow.Author.Needs.{needs}
 use Rattle.word.specs.declared.Anchor.{Anchor}
-use Rattle.join_model.specs.Merge.{merge}
-use Rattle.join_model.specs.Closed.{filled, leftOf, labelOf}
-use Rattle.join.specs.Scratch.{walkedTo, labelVia, rowsDown, rightTo}
+use Rattle.join_model.specs.{Merge.merge, Closed.{filled, leftOf, labelOf}}
+use Rattle.join.specs.Scratch.{InRows, walkedTo, labelVia, rowsDown, rightTo}
 use Rattle.join.proofs.fill.fill.Statement.{statement}
 use Rattle.join.proofs.fill.fill.Tie as tie
 
@@ -19,11 +18,26 @@ second w = let k = w .before .before .before in k .before .before .before
 abbrev first : tie.After-gather2 → tie.After-gather
 first g = g .before .before .before .before
 
+abbrev given : tie.After-unpack → tie.Start
+given u = let k = u .before .before .before .before in let l = k .before .before .before .before in l .before
+
 abbrev start : tie.After-gather → tie.Start
-start g = let u = g .before .before .before in let k = u .before .before .before .before in let l = k .before .before .before .before in l .before
+start g = given (g .before .before .before)
+
+gather-requires : tie.Need-gather-requires
+gather-requires c κs =
+    let u = c .before .before in
+    let s = given u in
+    subst (λ (r : Anchor). InRows (s .args .lefts1 .now) (r .right) (s .args .n)) (sym (u .unpack .ensures)) (s .pre .1 .0)
+
+gather-requires-2 : tie.Need-gather-requires-2
+gather-requires-2 c κs =
+    let g = c .before .before .before in
+    let s = start g in
+    subst (λ (r : Anchor). InRows (s .args .lefts2 .now) (r .right) (s .args .m)) (sym (g .before .before .unpack2 .ensures)) (s .pre .1 .1)
 
 link-up-requires : tie.Need-link-up-requires
-link-up-requires c κs = let k = c .before .before .before in let w = k .before .before in start (first (second w)) .pre
+link-up-requires c κs = let k = c .before .before .before in let w = k .before .before in start (first (second w)) .pre .0
 
 returns : tie.Need-returns
 returns c =
@@ -52,5 +66,5 @@ returns c =
 
 pub fill-spec : {M : Type 1} → statement M
 fill-spec =
-    tie.close (tie.spec (λ _ _. tt) (λ _ _. tt) (λ _ _. tt) (λ _ _. tt) (λ c κs. search needs) (λ c. search needs) link-up-requires
+    tie.close (tie.spec (λ _ _. tt) (λ _ _. tt) gather-requires gather-requires-2 (λ c κs. search needs) (λ c. search needs) link-up-requires
     (λ c. search needs) (λ c. search needs) (λ c. search needs) (λ c. search needs) returns)

@@ -1,16 +1,11 @@
 -- After k turns k rows are filled, and x is the slot after them.
-use mathlib.Core.Path.{_≡_, refl, ap, _∙_}
-use mathlib.Core.List.{List}
-use Prim.Native.Nat.{ℕ, _≤_, _+_, _-_}
+use mathlib.Core.{Path.{_≡_, refl, sym, ap, subst, _∙_}, List.List}
+use Prim.Native.Nat.{ℕ, _<_, _≤_, _+_, _-_}
 use native.Mathlib.Omega.{arith}
 use lib.ListN.{length}
-use Rattle.word.specs.declared.Link.{Link}
-use Rattle.word.specs.Link.{linkOf}
-use Rattle.join_model.specs.Closed.{filled}
-use Rattle.join_model.proofs.Filling.{filled-length}
+use Rattle.join_model.{specs.Closed.filled, proofs.Filling.filled-length}
 use Rattle.join.specs.Scratch.{trail, walkedTo}
-use Rattle.join.proofs.Filled.{filled-more, trail-more}
-use Rattle.join.proofs.fill.gather.Statement.{statement}
+use Rattle.join.proofs.{Filled.{filled-more, trail-more}, fill.gather.Statement.statement}
 use Rattle.join.proofs.fill.gather.Tie as tie
 
 record Kept (n end : ℕ) (links before now : List ℕ) (k x : ℕ) : Type 0 where
@@ -30,15 +25,13 @@ loop-holds c = record { few = omega arith; at = refl; done = refl }
 
 loop-again : tie.Need-loop-again Inv-loop μ-loop
 loop-again c =
-    let read = c .before in
-    let put = read .before .before .before in
+    let put = c .before .before .before in
     let l = put .before .before .before in
     let a = l .before .before .before .args in
     record {
       few = omega (arith, put .before .before .loop-test .taken);
       at =
-          ap (λ (r : Link). r .slot) (c .unpack .ensures)
-          ∙ ap (λ (w : ℕ). linkOf w .slot) (read .word-at .ensures)
+          c .follow .ensures
           ∙ trail-more (a .links .now) (a .end) (l .loop .k) (l .loop .x) (l .loop .inv .at);
       done =
           put .put-word .ensures ∙ filled-more (walkedTo (a .links .now) (a .end)) (l .loop .k) (a .out .now) (l .loop .out) (l .loop .x)
@@ -47,6 +40,13 @@ loop-again c =
   where
     at-row : (links : List ℕ) (end x k : ℕ) → x ≡ trail links end k → x ≡ walkedTo links end (k + 1)
     at-row links end x k e = let s : k ≡ k + 1 - 1 = omega arith in e ∙ ap (trail links end) s
+
+follow-requires : tie.Need-follow-requires Inv-loop μ-loop
+follow-requires c κs =
+    let put = c .before .before in
+    let l = put .before .before .before in
+    let s = l .before .before .before in
+    subst (λ (x : ℕ). x < length (s .args .links .now)) (sym (l .loop .inv .at)) (s .pre (l .loop .k) (put .before .before .loop-test .taken))
 
 same-length : tie.Need-same-length Inv-loop μ-loop
 same-length c =
@@ -70,8 +70,7 @@ gather-spec =
     loop-holds
     (λ c. omega arith)
     (λ _ _. tt)
-    (λ _ _. tt)
-    (λ _ _. tt)
+    follow-requires
     (λ c. omega arith)
     loop-again
     same-length

@@ -1,15 +1,12 @@
 -- After k turns k slots are linked and marked.
-use mathlib.Core.Path.{_≡_, refl, ap, _∙_}
-use mathlib.Core.List.{List}
+use mathlib.Core.{Path.{_≡_, refl, ap, _∙_}, List.List}
 use Prim.Native.Nat.{ℕ, _≤_, _-_, _+_}
 use native.Mathlib.Omega.{arith}
 use lib.ListN.{length}
 use Rattle.word.specs.Link.{packLink}
-use Rattle.join_model.specs.Closed.{filled, leftOf, markedTo}
-use Rattle.join_model.proofs.Filling.{filled-length, marked-length}
+use Rattle.join_model.{specs.Closed.{filled, leftOf, markedTo}, proofs.Filling.{filled-length, marked-length}}
 use Rattle.join.specs.Scratch.{rightTo}
-use Rattle.join.proofs.Filled.{filled-more, marked-more}
-use Rattle.join.proofs.fill.link_up.Statement.{statement}
+use Rattle.join.proofs.{Filled.{filled-more, marked-more}, fill.link_up.Statement.statement}
 use Rattle.join.proofs.fill.link_up.Tie as tie
 
 record Kept (n : ℕ) (lefts rights marks lefts′ rights′ marks′ : List ℕ) (k : ℕ) : Type 0 where
@@ -25,8 +22,8 @@ abbrev μ-loop : tie.MeasureT-loop
 μ-loop n lefts₀ rights₀ marks₀ k₀ lefts rights marks k = n - k
 
 -- The word that names k, never changed.
-named : (k : ℕ) → packLink (record { tag = 0; slot = k }) ≡ leftOf (k + 1)
-named k = let e : k ≡ k + 1 - 1 = omega arith in ap (λ (j : ℕ). packLink (record { tag = 0; slot = j })) e
+link-packed : (k : ℕ) → packLink (record { tag = 0; slot = k }) ≡ leftOf (k + 1)
+link-packed k = let e : k ≡ k + 1 - 1 = omega arith in ap (λ (j : ℕ). packLink (record { tag = 0; slot = j })) e
 
 -- The places of a turn.
 abbrev lefts-put : tie.After-put-word2 Inv-loop μ-loop → tie.After-put-word Inv-loop μ-loop
@@ -51,7 +48,7 @@ loop-again c =
     record {
       few = omega (arith, test .taken);
       left = p .put-word .ensures
-          ∙ filled-more leftOf k (a .lefts .now) (l .loop .lefts) _ (inv .left) (p .before .before .before .link-word .ensures ∙ named k);
+          ∙ filled-more leftOf k (a .lefts .now) (l .loop .lefts) _ (inv .left) (p .before .before .before .link-word .ensures ∙ link-packed k);
       right = r .put-word2 .ensures ∙ filled-more (rightTo (a .n)) k (a .rights .now) (l .loop .rights) _ (inv .right) (p .before .before .right-word .ensures);
       mark = m .set-mark .ensures ∙ marked-more k (a .marks .now) (l .loop .marks) (inv .mark);
     }

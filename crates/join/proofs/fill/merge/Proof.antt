@@ -1,16 +1,12 @@
 -- After k turns k labels are merged, and the rest is the merge of what remains of both.
-use mathlib.Core.Path.{_≡_, refl, sym, ap, _∙_}
-use mathlib.Core.List.{List, _∷_}
+use mathlib.Core.{Path.{_≡_, refl, sym, ap, _∙_}, List.{List, _∷_}}
 use Prim.Native.Nat.{ℕ, _+_, _-_}
 use native.Mathlib.Omega.{arith}
 use lib.ListN.{length, getD, drop}
 use borrow.Author.Needs.{needs}
-use Rattle.join_model.specs.Merge.{merge}
-use Rattle.join_model.specs.Closed.{filled, labelOf}
-use Rattle.join_model.proofs.Filling.{filled-length}
+use Rattle.join_model.{specs.{Merge.merge, Closed.{filled, labelOf}}, proofs.Filling.filled-length}
 use Rattle.join.specs.Scratch.{labelVia, rowsDown}
-use Rattle.join.proofs.Filled.{filled-more, drop-more}
-use Rattle.join.proofs.fill.merge.Statement.{statement}
+use Rattle.join.proofs.{Filled.{filled-more, drop-more}, fill.merge.Statement.statement}
 use Rattle.join.proofs.fill.merge.Tie as tie
 
 record Kept (f g : ℕ → ℕ) (n m all : ℕ) (before now : List ℕ) (first second k : ℕ) : Type 0 where

@@ -1,11 +1,9 @@
 -- The first list is empty, or the second, or neither.
-use mathlib.Core.Path.{_≡_}
-use mathlib.Core.Logic.{_≢_}
+use mathlib.Core.{Path._≡_, Logic._≢_}
 use Prim.Native.Nat.{ℕ, _+_, _-_}
 use native.Mathlib.Omega.{arith}
 use borrow.Author.Needs.{needs}
-use Rattle.join.proofs.Going.{only-second, only-first, first-goes, second-goes}
-use Rattle.join.proofs.fill.next.Statement.{statement}
+use Rattle.join.proofs.{Going.{only-second, only-first, first-goes, second-goes}, fill.next.Statement.statement}
 use Rattle.join.proofs.fill.next.Tie as tie
 
 left-of : (n m : ℕ) → n ≢ 0 → n - 1 + m + 1 ≡ n + m

@@ -2,18 +2,17 @@
 use mathlib.Core.Path.{_≡_, _∙_}
 use Prim.Native.Nat.{ℕ, _+_}
 use native.Mathlib.Numerals.{add-one}
-use borrow.Author.Needs.{needs}
-use borrow.Author.Tests.{lt-ltb, le-ltb}
+use borrow.Author.{Needs.needs, Tests.{lt-ltb, le-ltb}}
 use Rattle.word.specs.Link.{packLink}
 use Rattle.join_model.specs.Closed.{rightOf}
 use Rattle.join.proofs.fill.right_word.Statement.{statement}
 use Rattle.join.proofs.fill.right_word.Tie as tie
 
-named : (k : ℕ) → packLink (record { tag = 1; slot = k + 1 }) ≡ rightOf k
-named k = rw add-one
+link-packed : (k : ℕ) → packLink (record { tag = 1; slot = k + 1 }) ≡ rightOf k
+link-packed k = rw add-one
 
 returns : tie.Need-returns
-returns c = let a = c .before .before .args in rw (lt-ltb (a .k) (a .n) (c .before .if1 .taken)) (c .link-word .ensures ∙ named (a .k))
+returns c = let a = c .before .before .args in rw (lt-ltb (a .k) (a .n) (c .before .if1 .taken)) (c .link-word .ensures ∙ link-packed (a .k))
 
 returns-2 : tie.Need-returns-2
 returns-2 c = let a = c .before .args in rw (le-ltb (a .k) (a .n) (c .if1 .left))

@@ -1,6 +1,5 @@
 -- The tasks and the status.
-use mathlib.Core.Path.{ap, ap₂}
-use mathlib.Core.Bool.{Bool, _&&_}
+use mathlib.Core.{Path.{ap, ap₂}, Bool.{Bool, _&&_}}
 use lib.Dec.{eqb}
 use Rattle.word.specs.declared.Anchor.{Anchor}
 use Rattle.model.specs.Report.{busy}

@@ -5,8 +5,7 @@ use native.Mathlib.Omega.{arith}
 use borrow.Author.Tests.{eq-eqb}
 use Rattle.model.specs.declared.Call.{Call}
 use Rattle.rows.specs.Rows.{recordsOf}
-use Rattle.join.proofs.Tested.{busyIn, idle-none, idle-more, idle-less}
-use Rattle.join.proofs.rest.idle.Statement.{statement}
+use Rattle.join.proofs.{Tested.{busyIn, idle-none, idle-more, idle-less}, rest.idle.Statement.statement}
 use Rattle.join.proofs.rest.idle.Tie as tie
 
 abbrev Inv-loop : tie.InvT-loop

@@ -1,14 +1,9 @@
 -- The tests as they stand.
-use mathlib.Core.Path.{_∙_}
-use mathlib.Core.Bool.{not}
-use mathlib.Core.List.{[], _∷_}
-use Rattle.model.specs.Tables.{isPooled}
-use Rattle.model.specs.Sides.{isEmpty}
-use Rattle.model.specs.Lists.{every}
+use mathlib.Core.{Path._∙_, Bool.not, List.{[], _∷_}}
+use Rattle.model.specs.{Tables.isPooled, Sides.isEmpty, Lists.every}
 use Rattle.join_model.specs.Join.{fresh}
 use borrow.Author.Needs.{needs}
-use Rattle.join.proofs.Tested.{seven}
-use Rattle.join.proofs.rest.is_fresh.Statement.{statement}
+use Rattle.join.proofs.{Tested.seven, rest.is_fresh.Statement.statement}
 use Rattle.join.proofs.rest.is_fresh.Tie as tie
 
 returns : tie.Need-returns

@@ -1,7 +1,6 @@
 -- The word and its number, then the line's end.
 use Rattle.judge.specs.Saying.{counted}
-use Rattle.lines.specs.Line.{numbered}
-use Rattle.lines.proofs.Puts.{put-fits, put-more}
+use Rattle.lines.{specs.Line.numbered, proofs.Puts.{put-fits, put-more}}
 use borrow.Author.Needs.{needs}
 use Rattle.judge.proofs.say.put_counted.Statement.{statement}
 use Rattle.judge.proofs.say.put_counted.Tie as tie

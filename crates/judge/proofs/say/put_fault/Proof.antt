@@ -1,8 +1,7 @@
 -- One fault after the other.
-use borrow.Author.Tests.{eq-eqb, ne-eqb}
+use borrow.Author.{Tests.{eq-eqb, ne-eqb}, Needs.needs}
 use Rattle.judge.specs.Saying.{faultLine}
 use Rattle.lines.proofs.Puts.{put-fits}
-use borrow.Author.Needs.{needs}
 use Rattle.judge.proofs.say.put_fault.Statement.{statement}
 use Rattle.judge.proofs.say.put_fault.Tie as tie
 

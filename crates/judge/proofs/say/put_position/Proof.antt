@@ -1,8 +1,7 @@
 -- Position 0, or another.
-use borrow.Author.Tests.{eq-eqb, ne-eqb}
+use borrow.Author.{Tests.{eq-eqb, ne-eqb}, Needs.needs}
 use Rattle.judge.specs.Saying.{position}
 use Rattle.lines.proofs.Puts.{put-fits}
-use borrow.Author.Needs.{needs}
 use Rattle.judge.proofs.say.put_position.Statement.{statement}
 use Rattle.judge.proofs.say.put_position.Tie as tie
 

@@ -1,9 +1,7 @@
 -- The order is missing; or the line, and its fault.
-use borrow.Author.Tests.{eq-eqb, ne-eqb}
+use borrow.Author.{Tests.{eq-eqb, ne-eqb}, Needs.needs}
 use Rattle.judge.specs.Saying.{unreadLine}
-use Rattle.lines.specs.Line.{numbered}
-use Rattle.lines.proofs.Puts.{put-fits, put-more}
-use borrow.Author.Needs.{needs}
+use Rattle.lines.{specs.Line.numbered, proofs.Puts.{put-fits, put-more}}
 use Rattle.judge.proofs.say.put_unread.Statement.{statement}
 use Rattle.judge.proofs.say.put_unread.Tie as tie
 

@@ -3,10 +3,8 @@ use borrow.Author.{Needs.needs, Tests.leb-true}
 use mathlib.Core.Path.{sym, ap, subst, _∙_}
 use native.Mathlib.Nat.{le-trans}
 use lib.ListN.{length}
-use Rattle.lines.specs.Line.{Put, givenRoom}
-use Rattle.lines.proofs.Puts.{put-none}
-use Rattle.judge.specs.Saying.{isTold, message}
-use Rattle.judge.specs.declared.Judged.{Judged}
+use Rattle.lines.{specs.Line.{Put, givenRoom}, proofs.Puts.put-none}
+use Rattle.judge.specs.{Saying.{isTold, message}, declared.Judged.Judged}
 use Rattle.judge.proofs.say.say.Statement.{statement}
 use Rattle.judge.proofs.say.say.Tie as tie
 

@@ -1,17 +1,13 @@
 -- `put_digits` writes the digits of n: at most four, or those of n / 10000 and the last four. The measure is `more`.
 use Prim.Native.Nat.{ℕ, _<_}
-use borrow.Author.Needs.{needs}
-use borrow.Fn.Kinds.{In}
-use borrow.Fn.PlainCycle.{Measures, is, falls, and}
-use Rattle.lines.proofs.Puts.{put-more}
-use Rattle.lines.proofs.Digits.{group-none, group-last, group-more}
+use borrow.{Author.Needs.needs, Fn.{Kinds.In, PlainCycle.{Measures, is, falls, and}}}
+use Rattle.lines.proofs.{Puts.put-more, Digits.{group-none, group-last, group-more}}
+use Rattle.lines.proofs.number.+put_digits.{statement, Tie.close}
 use Rattle.lines.proofs.number.put_digits.Reads as put-digits
 use Rattle.lines.proofs.number.put_digits.Kinds as put-digits-kinds
 use Rattle.lines.proofs.number.+put_digits.Lts-put_digits as put-digits-lts
 use Rattle.lines.proofs.number.put_some.Reads as some
 use Rattle.lines.proofs.number.put_pair.Reads as pair
-use Rattle.lines.proofs.number.+put_digits.{statement}
-use Rattle.lines.proofs.number.+put_digits.Tie.{close}
 
 abbrev μ-put-digits : Measures 1 put-digits-kinds.ps ℕ
 μ-put-digits κs a = a .1 .1 .1 .0

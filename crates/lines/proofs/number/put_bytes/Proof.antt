@@ -1,7 +1,6 @@
 -- Four bytes one after the other.
-use Rattle.lines.proofs.{Puts.put-more, Glyphs.bytes-four}
+use Rattle.lines.proofs.{Puts.put-more, Glyphs.bytes-four, number.put_bytes.Statement.statement}
 use borrow.Author.Needs.{needs}
-use Rattle.lines.proofs.number.put_bytes.Statement.{statement}
 use Rattle.lines.proofs.number.put_bytes.Tie as tie
 
 same-length : tie.Need-same-length

@@ -1,8 +1,7 @@
 -- At most twenty digits.
-use Rattle.lines.proofs.Digits.{decimal-last, decimal-room}
+use Rattle.lines.proofs.{Digits.{decimal-last, decimal-room}, number.put_decimal.Statement.statement}
 use Rattle.lines.specs.Line.{decimal}
 use borrow.Author.Needs.{needs}
-use Rattle.lines.proofs.number.put_decimal.Statement.{statement}
 use Rattle.lines.proofs.number.put_decimal.Tie as tie
 
 returns : tie.Need-returns

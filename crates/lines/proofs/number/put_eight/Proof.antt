@@ -1,8 +1,7 @@
 -- At most four digits, or those of n / 10000 and four more.
-use Rattle.lines.proofs.Puts.{put-more}
-use Rattle.lines.proofs.Digits.{decimal-room, decimal-four}
-use borrow.Author.Needs.{needs}
+use Rattle.lines.proofs.{Puts.put-more, Digits.{decimal-room, decimal-four}}
 use Rattle.lines.proofs.number.put_eight.Statement.{statement}
+use borrow.Author.Needs.{needs}
 use Rattle.lines.proofs.number.put_eight.Tie as tie
 
 returns : tie.Need-returns

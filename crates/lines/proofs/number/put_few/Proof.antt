@@ -1,7 +1,6 @@
 -- One digit, or two.
-use Rattle.lines.proofs.Digits.{decimal-last, decimal-two}
+use Rattle.lines.proofs.{Digits.{decimal-last, decimal-two}, number.put_few.Statement.statement}
 use borrow.Author.Needs.{needs}
-use Rattle.lines.proofs.number.put_few.Statement.{statement}
 use Rattle.lines.proofs.number.put_few.Tie as tie
 
 returns : tie.Need-returns

@@ -1,7 +1,6 @@
 -- The four low bytes of the glyphs, then the four high ones.
-use Rattle.lines.proofs.{Puts.put-more, Glyphs.bytes-eight}
+use Rattle.lines.proofs.{Puts.put-more, Glyphs.bytes-eight, number.put_glyphs.Statement.statement}
 use borrow.Author.Needs.{needs}
-use Rattle.lines.proofs.number.put_glyphs.Statement.{statement}
 use Rattle.lines.proofs.number.put_glyphs.Tie as tie
 
 same-length : tie.Need-same-length

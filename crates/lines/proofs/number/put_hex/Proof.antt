@@ -1,7 +1,6 @@
 -- Eight digits, twice.
-use Rattle.lines.proofs.{Puts.put-more, Glyphs.hex-halves}
+use Rattle.lines.proofs.{Puts.put-more, Glyphs.hex-halves, number.put_hex.Statement.statement}
 use borrow.Author.Needs.{needs}
-use Rattle.lines.proofs.number.put_hex.Statement.{statement}
 use Rattle.lines.proofs.number.put_hex.Tie as tie
 
 same-length : tie.Need-same-length

@@ -1,8 +1,7 @@
 -- A word, then a number.
-use Rattle.lines.proofs.Puts.{put-more}
+use Rattle.lines.proofs.{Puts.put-more, number.put_numbered.Statement.statement}
 use Rattle.lines.specs.Line.{numbered}
 use borrow.Author.Needs.{needs}
-use Rattle.lines.proofs.number.put_numbered.Statement.{statement}
 use Rattle.lines.proofs.number.put_numbered.Tie as tie
 
 same-length : tie.Need-same-length

@@ -1,8 +1,7 @@
 -- One digit, then the other.
-use Rattle.lines.proofs.Puts.{put-more}
+use Rattle.lines.proofs.{Puts.put-more, number.put_pair.Statement.statement}
 use Rattle.lines.specs.Line.{lastTwo}
 use borrow.Author.Needs.{needs}
-use Rattle.lines.proofs.number.put_pair.Statement.{statement}
 use Rattle.lines.proofs.number.put_pair.Tie as tie
 
 same-length : tie.Need-same-length

@@ -1,8 +1,6 @@
 -- At most two digits, or those of n / 100 and two more.
-use Rattle.lines.proofs.Puts.{put-more}
-use Rattle.lines.proofs.Digits.{decimal-room, decimal-pair}
+use Rattle.lines.proofs.{Puts.put-more, Digits.{decimal-room, decimal-pair}, number.put_some.Statement.statement}
 use borrow.Author.Needs.{needs}
-use Rattle.lines.proofs.number.put_some.Statement.{statement}
 use Rattle.lines.proofs.number.put_some.Tie as tie
 
 returns : tie.Need-returns

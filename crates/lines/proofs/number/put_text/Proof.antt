@@ -1,13 +1,10 @@
 -- After i turns the first i bytes are stored.
 use borrow.Author.Needs.{needs}
-use lib.Seq.{sets, take-length}
-use lib.ListN.{length, take, set, getD}
-use mathlib.Core.List.{List}
-use mathlib.Core.Path.{_≡_, refl, ap, _∙_}
+use lib.{Seq.{sets, take-length}, ListN.{length, take, set, getD}}
+use mathlib.Core.{List.List, Path.{_≡_, refl, ap, _∙_}}
 use Prim.Native.Nat.{ℕ, _≤_, _-_, _+_}
-use Rattle.lines.proofs.Puts.{copy-more}
+use Rattle.lines.proofs.{Puts.copy-more, number.put_text.Statement.statement}
 use native.Mathlib.Omega.{arith}
-use Rattle.lines.proofs.number.put_text.Statement.{statement}
 use Rattle.lines.proofs.number.put_text.Tie as tie
 
 abbrev Inv-loop : tie.InvT-loop

@@ -1,24 +1,19 @@
 -- A place does on the mirrored record the mirror of what it does, where the side of the step is the opposite one.
-use mathlib.Core.Path.{_≡_, refl, ap, ap₂, _∙_}
-use mathlib.Core.Bool.{Bool, true, false, cond, and-comm}
+use mathlib.Core.{Path.{_≡_, refl, ap, ap₂, _∙_}, Bool.{Bool, true, false, cond, and-comm}}
 use Prim.Native.Nat.{ℕ, _+_, _<_}
 use native.Mathlib.Omega.{arith}
 use lib.{Dec.eqb, ListN.set}
-use Rattle.word.specs.declared.Anchor.{Anchor}
-use Rattle.word.specs.Anchor.{anchorOf, packAnchor}
-use Rattle.word.specs.Link.{linkOf, packLink}
-use Rattle.model.specs.declared.{Control.Control, Call.Call}
-use Rattle.model.specs.Tables.{tablesOf, Tables, isPooled, withSeen, withLink, withOwn}
-use Rattle.model.specs.Places.{sideOf, Touch, nothing, setAnchor, setLink, clearMark, takeSlot, setNext, setHead, Move}
-use Rattle.model.specs.Places.{reads, changes, reading, replaces}
-use Rattle.model.specs.Places.{at1, at2, at3, new4, at4, at5, at6, at7, at9, at10, at11, at12, at13, at14, at15, at16, at17, move, apply}
-use Rattle.model.specs.Places as placed
+use Rattle.word.specs.{declared.Anchor.Anchor, Anchor.{anchorOf, packAnchor}, Link.{linkOf, packLink}}
+use Rattle.model.specs.{declared.{Control.Control, Call.Call}, Sides.{opposite, far, facing, pushing}}
+use Rattle.model.specs.{Tables.{tablesOf, Tables, isPooled, withSeen, withLink, withOwn}, Kinds.{isPush, isPop}}
+use Rattle.model.specs.Places.{sideOf, Touch, nothing, setAnchor, setLink, clearMark, takeSlot, setNext, setHead}
+use Rattle.model.specs.Places.{Move, reads, changes, reading, replaces, at1, at2, at3, new4, at4, at5, at6, at7}
+use Rattle.model.specs.Places.{at9, at10, at11, at12, at13, at14, at15, at16, at17, move, apply}
 use Rattle.model.specs.Mirror.{mirrorStatus, mirrorAnchor, mirrorWord, mirrorControl, mirrorTables, mirrorBusy}
+use Rattle.model.specs.Places as placed
 use Rattle.model.proofs.laws.Mirror.Packed.{status-stable, mirror-fields, mirror-pack, mirror-equal}
-use Rattle.model.proofs.laws.Mirror.Sides.{far-mirror, facing-mirror, pushing-mirror, pushing-small, end-mirror, row-mirror, link-side-mirror}
-use Rattle.model.proofs.laws.Mirror.Sound.{eqb-sym}
-use Rattle.model.specs.Sides.{opposite, far, facing, pushing}
-use Rattle.model.specs.Kinds.{isPush, isPop}
+use Rattle.model.proofs.laws.Mirror.Sides.{far-mirror, facing-mirror, pushing-mirror, pushing-small, end-mirror}
+use Rattle.model.proofs.laws.Mirror.{Sides.{row-mirror, link-side-mirror}, Sound.eqb-sym}
 
 abbrev pub mirrorTouch : Touch → Touch
 mirrorTouch nothing = nothing

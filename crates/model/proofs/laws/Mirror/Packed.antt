@@ -1,12 +1,10 @@
 -- The mirror of an Anchor word, field by field; packing commutes with it.
-use mathlib.Core.Path.{_≡_, refl, ap, _∙_, sym}
-use mathlib.Core.Bool.{Bool, true, false}
+use mathlib.Core.{Path.{_≡_, refl, ap, _∙_, sym}, Bool.{Bool, true, false}}
 use Prim.Native.Nat.{ℕ, zero, suc, _/_, _%_, _^_, _<_}
 use native.Mathlib.Omega.{arith}
 use lib.Dec.{eqb, leb}
 use borrow.Author.Tests.{eqb-true, eqb-false, eq-eqb, ne-eqb}
-use Rattle.word.specs.declared.Anchor.{Anchor}
-use Rattle.word.specs.Anchor.{anchorOf, anchorWord, cutAnchor, packAnchor}
+use Rattle.word.specs.{declared.Anchor.Anchor, Anchor.{anchorOf, anchorWord, cutAnchor, packAnchor}}
 use Rattle.word.proofs.Laws.{same-anchor, word-fields}
 use Rattle.model.specs.Mirror.{mirrorStatus, mirrorAnchor, mirrorWord}
 

@@ -1,21 +1,14 @@
 -- What a side picks, mirrored: the opposite side picks the same of the mirrored tables.
-use mathlib.Core.Path.{_≡_, refl, ap, ap₂, _∙_}
-use mathlib.Core.Bool.{Bool, true, false, _||_, not, cond}
-use mathlib.Core.List.{List}
+use mathlib.Core.{Path.{_≡_, refl, ap, ap₂, _∙_}, Bool.{Bool, true, false, _||_, not, cond}, List.List}
 use Prim.Native.Nat.{ℕ, zero, suc, _<_}
 use native.Mathlib.Omega.{arith}
-use lib.Dec.{eqb, leb}
-use lib.ListN.{getD}
+use lib.{Dec.{eqb, leb}, ListN.getD}
 use borrow.Author.Tests.{leb-true}
-use Rattle.word.specs.declared.Anchor.{Anchor}
-use Rattle.word.specs.{Anchor.anchorOf, Link.linkOf}
-use Rattle.model.specs.declared.Call.{Call}
-use Rattle.model.specs.Tables.{Tables}
-use Rattle.model.specs.Places.{sideOf, endSeen, row, linkSide, wordFound}
+use Rattle.word.specs.{declared.Anchor.Anchor, Anchor.anchorOf, Link.linkOf}
+use Rattle.model.specs.{declared.Call.Call, Tables.Tables, Places.{sideOf, endSeen, row, linkSide, wordFound}}
 use Rattle.model.specs.Mirror.{mirrorSide, mirrorStatus, mirrorAnchor, mirrorTables, mirrorBusy}
+use Rattle.model.specs.{Sides.{opposite, near, far, facing, links, pushing, statusSide}, Kinds.{helping, isPush}}
 use Rattle.model.proofs.laws.Mirror.Packed.{mirror-fields}
-use Rattle.model.specs.Sides.{opposite, near, far, facing, links, pushing, sideNamed}
-use Rattle.model.specs.Kinds.{helping, isPush}
 
 -- A side enters by one test alone.
 module _ (d : ℕ) where
@@ -68,16 +61,16 @@ module _ (d : ℕ) where
       go false = omega arith
 
 -- The side of a step, where the record is sound: its side is 0 or 1, and a record that helps has read RPUSH or LPUSH.
-side-or-named : (h : Bool) (s d : ℕ) → leb d 1 ≡ true → leb s 2 ≡ true → not h || not (eqb s 0) ≡ true
-    → cond h (sideNamed (mirrorStatus s)) (mirrorSide d) ≡ opposite (cond h (sideNamed s) d)
+side-or-status : (h : Bool) (s d : ℕ) → leb d 1 ≡ true → leb s 2 ≡ true → not h || not (eqb s 0) ≡ true
+    → cond h (statusSide (mirrorStatus s)) (mirrorSide d) ≡ opposite (cond h (statusSide s) d)
 unfolding mirrorStatus mirrorSide
-side-or-named false s zero f g e = refl
-side-or-named false s (suc zero) f g e = refl
-side-or-named false s (suc (suc d)) f g e = absurd (omega (arith, leb-true (suc (suc d)) 1 f))
-side-or-named true zero d f g e = absurd (let z : _≡_ {A = ℕ} 0 1 = cc in omega arith)
-side-or-named true (suc zero) d f g e = refl
-side-or-named true (suc (suc zero)) d f g e = refl
-side-or-named true (suc (suc (suc s))) d f g e = absurd (omega (arith, leb-true (suc (suc (suc s))) 2 g))
+side-or-status false s zero f g e = refl
+side-or-status false s (suc zero) f g e = refl
+side-or-status false s (suc (suc d)) f g e = absurd (omega (arith, leb-true (suc (suc d)) 1 f))
+side-or-status true zero d f g e = absurd (let z : _≡_ {A = ℕ} 0 1 = cc in omega arith)
+side-or-status true (suc zero) d f g e = refl
+side-or-status true (suc (suc zero)) d f g e = refl
+side-or-status true (suc (suc (suc s))) d f g e = absurd (omega (arith, leb-true (suc (suc (suc s))) 2 g))
 
 module _ (r : Call) where
   pub side-mirror : leb (r .side) 1 ≡ true → leb (anchorOf (r .seen) .status) 2 ≡ true
@@ -85,8 +78,8 @@ module _ (r : Call) where
       → sideOf (mirrorBusy r) ≡ opposite (sideOf r)
   unfolding sideOf
   side-mirror f g e =
-      ap (λ (a : Anchor). cond (helping r) (sideNamed (a .status)) (mirrorSide (r .side))) (mirror-fields (r .seen))
-      ∙ side-or-named (helping r) (anchorOf (r .seen) .status) (r .side) f g e
+      ap (λ (a : Anchor). cond (helping r) (statusSide (a .status)) (mirrorSide (r .side))) (mirror-fields (r .seen))
+      ∙ side-or-status (helping r) (anchorOf (r .seen) .status) (r .side) f g e
 
   module _ (turned : sideOf (mirrorBusy r) ≡ opposite (sideOf r)) where
     pub end-mirror : endSeen (mirrorBusy r) ≡ endSeen r

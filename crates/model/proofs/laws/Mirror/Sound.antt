@@ -1,18 +1,14 @@
 -- What is sound is sound mirrored: every test and every refusal of a start is the same.
-use mathlib.Core.Path.{_≡_, refl, ap, _∙_, sym}
-use mathlib.Core.Bool.{Bool, true, false, _&&_, _||_, not, Bool·beq, cond}
+use mathlib.Core.{Path.{_≡_, refl, ap, _∙_, sym}, Bool.{Bool, true, false, _&&_, _||_, not, Bool·beq, cond}}
 use Prim.Native.Nat.{ℕ, zero, suc, _/_}
 use native.Mathlib.Omega.{arith}
-use lib.Dec.{eqb, leb, ltb}
-use lib.ListN.{length}
+use lib.{Dec.{eqb, leb, ltb}, ListN.length}
 use borrow.Author.Tests.{eqb-true, eqb-false, eq-eqb, ne-eqb}
-use Rattle.word.specs.declared.Anchor.{Anchor}
-use Rattle.word.specs.Anchor.{anchorOf}
-use Rattle.model.specs.declared.{Control.Control, Call.Call, Asked.Asked}
-use Rattle.model.specs.Tables.{Tables, isPooled}
-use Rattle.model.specs.Sound.{from1, anchorSound, controlSound, recordSound, rowsFit}
+use Rattle.word.specs.{declared.Anchor.Anchor, Anchor.anchorOf}
+use Rattle.model.specs.{declared.{Control.Control, Call.Call, Asked.Asked}, Tables.{Tables, isPooled}}
+use Rattle.model.specs.{Sound.{from1, anchorSound, controlSound, recordSound, rowsFit}, Mirror.mirrorRecord}
 use Rattle.model.specs.Refusals.{Lent, fits, startRefusal}
-use Rattle.model.specs.Mirror.{mirrorSide, mirrorAnchor, mirrorWord, mirrorControl, mirrorTables, mirrorBusy, mirrorRecord}
+use Rattle.model.specs.Mirror.{mirrorSide, mirrorAnchor, mirrorWord, mirrorControl, mirrorTables, mirrorBusy}
 use Rattle.model.proofs.laws.Mirror.Packed.{status-stable, status-range, mirror-fields}
 
 pub eqb-sym : (m n : ℕ) → eqb m n ≡ eqb n m

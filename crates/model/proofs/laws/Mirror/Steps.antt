@@ -1,26 +1,21 @@
 -- A step of the mirrored record: refused for the same reason, or carried out as the mirror of the step.
-use mathlib.Core.Path.{_≡_, refl, ap, _∙_, sym}
-use mathlib.Core.Bool.{Bool, true, false, _&&_, _||_, not, cond}
-use mathlib.Core.List.{[], _∷_}
+use mathlib.Core.{Path.{_≡_, refl, ap, _∙_, sym}, Bool.{Bool, true, false, _&&_, _||_, not, cond}, List.{[], _∷_}}
 use Prim.Native.Nat.{ℕ}
-use lib.Dec.{eqb, leb, ltb}
-use lib.ListN.{getD}
+use lib.{Dec.{eqb, leb, ltb}, ListN.getD}
 use borrow.Author.Tests.{eqb-true, not-false}
-use Rattle.model.specs.declared.{Control.Control, Call.Call, Record.Record}
-use Rattle.model.specs.declared.Outcome.the-variants.{Refused, Moved}
-use Rattle.model.specs.Tables.{atPlace, Tables, isPooled, idle, withCall}
-use Rattle.model.specs.Sound.{from1, linkSound, controlSound, recordSound, rowsFit}
-use Rattle.model.specs.Places.{sideOf, row, wordFound, Touch, nothing, setAnchor, setLink, clearMark, takeSlot, setNext, setHead, Move, move}
-use Rattle.model.specs.Route.{route, onward, answer, goes, counted}
-use Rattle.model.specs.Refusals.{Lent, rule, first, needsRow, meetsLink, meetsHead, leavesSound, hasRoom, stepSound, stepRules, stepRefusal}
-use Rattle.model.specs.Calls.{Acted, decide, finish, step}
+use Rattle.model.specs.declared.{Control.Control, Call.Call, Record.Record, Outcome.the-variants.{Refused, Moved}}
+use Rattle.model.specs.{Tables.{atPlace, Tables, isPooled, idle, withCall}, Places.{setNext, setHead, Move, move}}
+use Rattle.model.specs.{Sound.{from1, linkSound, controlSound, recordSound, rowsFit}, Sides.opposite, Lists.every}
+use Rattle.model.specs.Places.{sideOf, row, wordFound, Touch, nothing, setAnchor, setLink, clearMark, takeSlot}
+use Rattle.model.specs.{Route.{route, onward, answer, goes, counted}, Calls.{Acted, decide, finish, step}}
+use Rattle.model.specs.Refusals.{Lent, rule, first, needsRow, meetsLink, meetsHead, leavesSound, hasRoom}
+use Rattle.model.specs.Refusals.{stepSound, stepRules, stepRefusal}
 use Rattle.model.specs.Mirror.{mirrorTask, mirrorControl, mirrorTables, mirrorBusy, mirrorRecord, mirrorActed}
-use Rattle.model.proofs.laws.{SoundRecord.sound-record, Onward.leads-on}
-use Rattle.model.proofs.tests.Rules.{cleared}
+use Rattle.model.proofs.{laws.{SoundRecord.sound-record, Onward.leads-on}, tests.Rules.cleared}
 use Rattle.model.proofs.laws.Mirror.Sides.{side-mirror, row-mirror, link-met-mirror}
-use Rattle.model.proofs.laws.Mirror.Sound.{word-sound-mirror, tag-mirror, control-sound-mirror, record-sound-mirror, place-mirror, rows-fit-mirror}
+use Rattle.model.proofs.laws.Mirror.Sound.{word-sound-mirror, tag-mirror, control-sound-mirror, place-mirror}
+use Rattle.model.proofs.laws.Mirror.Sound.{record-sound-mirror, rows-fit-mirror}
 use Rattle.model.proofs.laws.Mirror.Moves.{mirrorTouch, mirrorMove, apply-mirror, move-mirror}
-use Rattle.model.specs.{Sides.opposite, Lists.every}
 
 pub busy-record : (r : Call) → eqb (r .place) 0 ≡ false → mirrorRecord r ≡ mirrorBusy r
 unfolding mirrorRecord

@@ -1,7 +1,5 @@
 -- The mirror of the mirror is the queue itself: the mirror loses nothing.
-use mathlib.Core.Path.{_≡_, refl, ap, ap₂, _∙_}
-use mathlib.Core.Bool.{Bool, true, false, cond}
-use mathlib.Core.List.{List, [], _∷_, map}
+use mathlib.Core.{Path.{_≡_, refl, ap, ap₂, _∙_}, Bool.{Bool, true, false, cond}, List.{List, [], _∷_, map}}
 use Prim.Native.Nat.{ℕ, zero, suc}
 use native.Mathlib.Omega.{arith}
 use lib.Dec.{eqb}

@@ -1,7 +1,6 @@
 -- `step12`, with what the calls answer put in.
 use borrow.Author.Needs.{needs}
-use Rattle.places.proofs.OnStack.{step12}
-use Rattle.places.proofs.pool.at12.Statement.{statement}
+use Rattle.places.proofs.{OnStack.step12, pool.at12.Statement.statement}
 use Rattle.places.proofs.pool.at12.Tie as tie
 
 returns : tie.Need-returns

@@ -1,6 +1,5 @@
 -- `step13`, with what the calls answer put in.
-use Rattle.places.proofs.OnStack.{step13}
-use Rattle.places.proofs.pool.at13.Statement.{statement}
+use Rattle.places.proofs.{OnStack.step13, pool.at13.Statement.statement}
 use Rattle.places.proofs.pool.at13.Tie as tie
 
 returns : tie.Need-returns

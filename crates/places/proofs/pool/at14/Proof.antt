@@ -1,8 +1,7 @@
 -- `step14`, with what the calls answer put in.
 use mathlib.Core.Path.{sym, _∙_}
 use borrow.Author.Needs.{needs}
-use Rattle.places.proofs.OnStack.{step14}
-use Rattle.places.proofs.pool.at14.Statement.{statement}
+use Rattle.places.proofs.{OnStack.step14, pool.at14.Statement.statement}
 use Rattle.places.proofs.pool.at14.Tie as tie
 
 returns : tie.Need-returns

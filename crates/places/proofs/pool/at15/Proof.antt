@@ -1,7 +1,6 @@
 -- `step15`, with what the calls answer put in.
 use borrow.Author.Needs.{needs}
-use Rattle.places.proofs.OnStack.{step15}
-use Rattle.places.proofs.pool.at15.Statement.{statement}
+use Rattle.places.proofs.{OnStack.step15, pool.at15.Statement.statement}
 use Rattle.places.proofs.pool.at15.Tie as tie
 
 returns : tie.Need-returns

@@ -1,8 +1,7 @@
 -- `step16`, with what the calls answer put in.
 use borrow.Author.Needs.{needs}
 use Rattle.decide.specs.Decided.{found16}
-use Rattle.places.proofs.OnStack.{step16}
-use Rattle.places.proofs.pool.at16.Statement.{statement}
+use Rattle.places.proofs.{OnStack.step16, pool.at16.Statement.statement}
 use Rattle.places.proofs.pool.at16.Tie as tie
 
 returns : tie.Need-returns

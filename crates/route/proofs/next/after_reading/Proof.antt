@@ -1,14 +1,10 @@
 -- Each return is one outcome of the model's `reading`: the tests that led there rewrite it, and its branch is the one picked.
-use mathlib.Core.Path.{_≡_, refl, sym, _∙_}
-use mathlib.Core.Bool.{Bool, true, false, _&&_, and-false}
-use mathlib.Core.Logic.{⊎-elim}
+use mathlib.Core.{Path.{_≡_, refl, sym, _∙_}, Bool.{Bool, true, false, _&&_, and-false}, Logic.⊎-elim}
 use Prim.Native.Nat.{ℕ}
 use lib.Dec.{eqb}
-use borrow.Author.Needs.{needs}
-use borrow.Author.Tests.{eq-eqb, ne-eqb, eqb-true}
+use borrow.Author.{Needs.needs, Tests.{eq-eqb, ne-eqb, eqb-true}}
 use Rattle.word.specs.declared.Anchor.{Anchor}
-use Rattle.model.specs.Places.{reading}
-use Rattle.model.specs.Sides.{isEmpty}
+use Rattle.model.specs.{Places.reading, Sides.isEmpty}
 use Rattle.route.proofs.next.after_reading.Statement.{statement}
 use Rattle.route.proofs.next.after_reading.Tie as tie
 

@@ -1,15 +1,12 @@
 -- The entry of the place's row, which the constant's are proved to be (`row`).
-use mathlib.Core.Path.{_≡_, refl, ap, sym, _∙_}
-use mathlib.Core.List.{List, []}
+use mathlib.Core.{Path.{_≡_, refl, ap, sym, _∙_}, List.{List, []}}
 use Prim.Native.Nat.{ℕ, zero, suc, _≤_}
 use native.Mathlib.Omega.{arith}
 use lib.ListN.{getD}
-use borrow.Author.Needs.{needs}
-use borrow.Author.Tests.{ne-eqb}
+use borrow.Author.{Needs.needs, Tests.ne-eqb}
 use Rattle.model.specs.Route.{route}
 use Rattle.route.specs.Constants.{branchesOf}
-use Rattle.route.proofs.Beyond.{many}
-use Rattle.route.proofs.next.next.Statement.{statement}
+use Rattle.route.proofs.{Beyond.many, next.next.Statement.statement}
 use Rattle.route.proofs.next.next.Tie as tie
 
 entry : (place kind branch : ℕ) → branch ≤ 4 → getD (branchesOf place kind) branch 0 ≡ route place kind branch

@@ -1,17 +1,12 @@
 -- Each row of the constant computes to the route's; beyond them there is none.
-use mathlib.Core.Bool.{true}
-use mathlib.Core.Path.{_≡_, sym}
-use mathlib.Core.List.{List, [], _∷_}
-use Prim.Native.Nat.{ℕ, zero, suc, _<_, _≤_}
+use mathlib.Core.{Bool.true, Path.{_≡_, sym}, List.{List, [], _∷_}}
+use Prim.Native.Nat.{ℕ, zero, suc, _<_}
 use native.Mathlib.Omega.{arith}
 use lib.Dec.{eqb}
-use borrow.Author.Needs.{needs}
-use borrow.Author.Tests.{eqb-true, eqb-false}
-use Rattle.model.specs.Route.{route, pushRoute, popRoute}
-use Rattle.model.proofs.tests.Truth.{split}
+use borrow.Author.{Needs.needs, Tests.{eqb-true, eqb-false}}
+use Rattle.model.{specs.Route.{route, pushRoute, popRoute}, proofs.tests.Truth.split}
 use Rattle.route.specs.Constants.{rowOf}
-use Rattle.route.proofs.Beyond.{past}
-use Rattle.route.proofs.next.row.Statement.{statement}
+use Rattle.route.proofs.{Beyond.past, next.row.Statement.statement}
 use Rattle.route.proofs.next.row.Tie as tie
 
 -- Five branches that lead nowhere, for a push and for a pop.

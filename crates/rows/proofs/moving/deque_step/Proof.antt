@@ -1,19 +1,13 @@
--- Refused by its number, or its place's contract and what is stored of it, by `early-place`.
-use mathlib.Core.Path.{_≡_, sym, subst, _∙_}
-use mathlib.Core.List.{List}
+-- Refused by its number, or its place's contract and what is stored of it, by `deque-place`.
+use mathlib.Core.{Path.{_≡_, sym, subst, _∙_}, List.List}
 use Prim.Native.Nat.{ℕ, suc, _<_, _≤_}
 use native.Mathlib.Omega.{arith}
-use borrow.Author.Needs.{needs}
-use borrow.Author.Tests.{not-true, not-false}
-use Rattle.model.specs.declared.Control.{Control}
-use Rattle.model.specs.declared.Call.{Call}
-use Rattle.model.specs.Tables.{isPooled}
-use Rattle.model.specs.Refusals.{recordRefusal}
-use Rattle.sound.proofs.Early.{early}
+use borrow.Author.{Needs.needs, Tests.{not-true, not-false}}
+use Rattle.model.specs.{declared.{Control.Control, Call.Call}, Tables.isPooled, Refusals.recordRefusal}
+use Rattle.sound.proofs.{DequePlaces.deque-places, Refused.{no-call, unsound, passes}}
 use Rattle.engine.proofs.InParts.{above}
 use Rattle.rows.specs.Rows.{callOf}
-use Rattle.rows.proofs.InItsRow.{no-call, unsound, passes, refuses, early-place}
-use Rattle.rows.proofs.moving.deque_step.Statement.{statement}
+use Rattle.rows.proofs.{InItsRow.{refuses, deque-place}, moving.deque_step.Statement.statement}
 use Rattle.rows.proofs.moving.deque_step.Tie as tie
 
 -- Control and record, read from their rows.
@@ -53,7 +47,7 @@ returns-2 c low labels marks next =
     let read = told .before .before in
     refuses _ _ _ _ labels marks next _ _ (read .control-of .ensures) (called read .call-of .ensures) 34 _
     (unsound _ _ _
-    (sym (early _ _ (low-place read low) (isPooled (c₀ read)) (some (busy .if2 .left)))
+    (sym (deque-places _ _ (low-place read low) (isPooled (c₀ read)) (some (busy .if2 .left)))
     ∙ sym (told .before .deque-sound .ensures) ∙ not-true _ (told .if1 .taken)))
     (λ (x : _≡_ {A = ℕ} 34 0). omega (arith, x)) (c .refuse2 .ensures)
 
@@ -65,7 +59,8 @@ module _ (left : tie.Else1) where
   passed : (r₀ read₀ .place ≡ 0 → ⊥) → callOf (row₀ read₀) .place ≤ 10 → recordRefusal (isPooled (c₀ read₀)) (c₀ read₀ .slots) (r₀ read₀) ≡ 0
   passed busy low =
       passes _ _ _ busy
-      (sym (early _ _ (low-place read₀ low) (isPooled (c₀ read₀)) (some busy)) ∙ sym (left .before .deque-sound .ensures) ∙ not-false _ (left .if1 .left))
+      (sym (deque-places _ _ (low-place read₀ low) (isPooled (c₀ read₀)) (some busy)) ∙ sym (left .before .deque-sound .ensures)
+      ∙ not-false _ (left .if1 .left))
 
 returns-3 : tie.Need-returns-3
 returns-3 c low labels marks next =
@@ -76,24 +71,24 @@ returns-3 c low labels marks next =
 
 returns-4 : tie.Need-returns-4
 returns-4 c low labels marks next =
-    let made = c .before in
-    let place = made .before .before .before in
+    let made = c .before .before .before in
+    let place = made .before in
     let left = place .before in
     let read = read₀ left in
     let put = c .put-deque .ensures in
-    early-place _ _ _ _ labels marks next _ _ (read .control-of .ensures) (called read .call-of .ensures) _ _ _ _ labels marks next _
+    deque-place _ _ _ _ labels marks next _ _ (read .control-of .ensures) (called read .call-of .ensures) _ _ _ _ labels marks next _
     (put .1 .1 .1) 1 _
     (passed left (at 0 (place .match .keys2)) low) (place .match .keys2) (low-place read low)
     (λ k. made .at1 .ensures _ _ labels marks next k) (put .1 .0) (put .1 .1 .0) (put .0)
 
 returns-5 : tie.Need-returns-5
 returns-5 c low labels marks next =
-    let made = c .before in
-    let place = made .before .before .before in
+    let made = c .before .before .before in
+    let place = made .before in
     let left = place .before in
     let read = read₀ left in
     let put = c .put-deque2 .ensures in
-    early-place _ _ _ _ labels marks next _ _ (read .control-of .ensures) (called read .call-of .ensures) _ _ _ _ labels marks next _
+    deque-place _ _ _ _ labels marks next _ _ (read .control-of .ensures) (called read .call-of .ensures) _ _ _ _ labels marks next _
     (put .1 .1 .1) 2 _
     (passed left (at 1 (place .match .keys3)) low) (place .match .keys3) (low-place read low)
     (λ k. made .at2 .ensures _ _ labels marks next k) (put .1 .0)
@@ -101,26 +96,25 @@ returns-5 c low labels marks next =
 
 returns-6 : tie.Need-returns-6
 returns-6 c low labels marks next =
-    let made0 = c .before .before .before .before in
-    let made = made0 .before in
-    let place0 = made .before .before .before .before in
-    let place = place0 .before in
+    let gone = c .before .before .before in
+    let made = gone .before .before .before .before in
+    let place = made .before .before .before in
     let left = place .before in
     let read = read₀ left in
     let put = c .put-deque3 .ensures in
-    early-place _ _ _ _ labels marks next _ _ (read .control-of .ensures) (called read .call-of .ensures) _ _ _ _ labels marks next _
+    deque-place _ _ _ _ labels marks next _ _ (read .control-of .ensures) (called read .call-of .ensures) _ _ _ _ labels marks next _
     (put .1 .1 .1) 3 _
     (passed left (at 2 (place .match .keys4)) low) (place .match .keys4) (low-place read low)
     (λ k. made .at3 .ensures labels marks next k) (put .1 .0) (put .1 .1 .0) (put .0)
 
 returns-7 : tie.Need-returns-7
 returns-7 c low labels marks next =
-    let made = c .before in
-    let place = made .before .before .before in
+    let made = c .before .before .before in
+    let place = made .before in
     let left = place .before in
     let read = read₀ left in
     let put = c .put-deque4 .ensures in
-    early-place _ _ _ _ labels marks next _ _ (read .control-of .ensures) (called read .call-of .ensures) _ _ _ _ labels marks next _
+    deque-place _ _ _ _ labels marks next _ _ (read .control-of .ensures) (called read .call-of .ensures) _ _ _ _ labels marks next _
     (put .1 .1 .1) 4 _
     (passed left (at 3 (place .match .keys5)) low) (place .match .keys5) (low-place read low)
     (λ k. made .at4 .ensures _ _ labels marks next k) (put .1 .0)
@@ -128,76 +122,73 @@ returns-7 c low labels marks next =
 
 returns-8 : tie.Need-returns-8
 returns-8 c low labels marks next =
-    let made = c .before in
-    let place0 = made .before .before .before .before in
-    let place = place0 .before in
+    let made = c .before .before .before in
+    let place = made .before .before .before in
     let left = place .before in
     let read = read₀ left in
     let put = c .put-deque5 .ensures in
-    early-place _ _ _ _ labels marks next _ _ (read .control-of .ensures) (called read .call-of .ensures) _ _ _ _ labels marks next _
+    deque-place _ _ _ _ labels marks next _ _ (read .control-of .ensures) (called read .call-of .ensures) _ _ _ _ labels marks next _
     (put .1 .1 .1) 5 _
     (passed left (at 4 (place .match .keys6)) low) (place .match .keys6) (low-place read low)
     (λ k. made .at5 .ensures labels marks next k) (put .1 .0) (put .1 .1 .0) (put .0)
 
 returns-9 : tie.Need-returns-9
 returns-9 c low labels marks next =
-    let made = c .before in
-    let place = made .before .before .before in
+    let made = c .before .before .before in
+    let place = made .before in
     let left = place .before in
     let read = read₀ left in
     let put = c .put-deque6 .ensures in
-    early-place _ _ _ _ labels marks next _ _ (read .control-of .ensures) (called read .call-of .ensures) _ _ _ _ labels marks next _
+    deque-place _ _ _ _ labels marks next _ _ (read .control-of .ensures) (called read .call-of .ensures) _ _ _ _ labels marks next _
     (put .1 .1 .1) 6 _
     (passed left (at 5 (place .match .keys7)) low) (place .match .keys7) (low-place read low)
     (λ k. made .at6 .ensures _ _ labels marks next k) (put .1 .0) (put .1 .1 .0) (put .0)
 
 returns-10 : tie.Need-returns-10
 returns-10 c low labels marks next =
-    let made = c .before in
-    let place0 = made .before .before .before .before in
-    let place = place0 .before in
+    let made = c .before .before .before in
+    let place = made .before .before .before in
     let left = place .before in
     let read = read₀ left in
     let put = c .put-deque7 .ensures in
-    early-place _ _ _ _ labels marks next _ _ (read .control-of .ensures) (called read .call-of .ensures) _ _ _ _ labels marks next _
+    deque-place _ _ _ _ labels marks next _ _ (read .control-of .ensures) (called read .call-of .ensures) _ _ _ _ labels marks next _
     (put .1 .1 .1) 7 _
     (passed left (at 6 (place .match .keys8)) low) (place .match .keys8) (low-place read low)
     (λ k. made .at7 .ensures labels marks next k) (put .1 .0) (put .1 .1 .0) (put .0)
 
 returns-11 : tie.Need-returns-11
 returns-11 c low labels marks next =
-    let made = c .before in
-    let place = made .before .before .before in
+    let made = c .before .before .before in
+    let place = made .before in
     let left = place .before in
     let read = read₀ left in
     let put = c .put-deque8 .ensures in
-    early-place _ _ _ _ labels marks next _ _ (read .control-of .ensures) (called read .call-of .ensures) _ _ _ _ labels marks next _
+    deque-place _ _ _ _ labels marks next _ _ (read .control-of .ensures) (called read .call-of .ensures) _ _ _ _ labels marks next _
     (put .1 .1 .1) 8 _
     (passed left (at 7 (place .match .keys9)) low) (place .match .keys9) (low-place read low)
     (λ k. made .at8 .ensures _ _ labels marks next k) (put .1 .0) (put .1 .1 .0) (put .0)
 
 returns-12 : tie.Need-returns-12
 returns-12 c low labels marks next =
-    let made0 = c .before .before .before .before in
-    let made = made0 .before in
-    let place0 = made .before .before .before .before in
-    let place = place0 .before in
+    let gone = c .before .before .before in
+    let made = gone .before .before .before .before in
+    let place = made .before .before .before in
     let left = place .before in
     let read = read₀ left in
     let put = c .put-deque9 .ensures in
-    early-place _ _ _ _ labels marks next _ _ (read .control-of .ensures) (called read .call-of .ensures) _ _ _ _ labels marks next _
+    deque-place _ _ _ _ labels marks next _ _ (read .control-of .ensures) (called read .call-of .ensures) _ _ _ _ labels marks next _
     (put .1 .1 .1) 9 _
     (passed left (at 8 (place .match .keys10)) low) (place .match .keys10) (low-place read low)
     (λ k. made .at9 .ensures labels marks next k) (put .1 .0) (put .1 .1 .0) (put .0)
 
 returns-13 : tie.Need-returns-13
 returns-13 c low labels marks next =
-    let made = c .before in
-    let place = made .before .before .before in
+    let made = c .before .before .before in
+    let place = made .before in
     let left = place .before in
     let read = read₀ left in
     let put = c .put-deque10 .ensures in
-    early-place _ _ _ _ labels marks next _ _ (read .control-of .ensures) (called read .call-of .ensures) _ _ _ _ labels marks next _
+    deque-place _ _ _ _ labels marks next _ _ (read .control-of .ensures) (called read .call-of .ensures) _ _ _ _ labels marks next _
     (put .1 .1 .1) 10 _
     (passed left (at 9 (place .match .keys11)) low) (place .match .keys11) (low-place read low)
     (λ k. made .at10 .ensures _ _ labels marks next k) (put .1 .0)

@@ -1,7 +1,6 @@
 -- Nothing, the head alone, or own slot and label too.
 use mathlib.Core.Path.{refl, sym, _∙_}
-use borrow.Author.Tests.{not-true, not-false}
-use borrow.Author.Needs.{needs}
+use borrow.Author.{Tests.{not-true, not-false}, Needs.needs}
 use Rattle.rows.specs.Rows.{recordOf}
 use Rattle.engine.proofs.Stored.{rest-end, rest-going, rest-nothing}
 use Rattle.rows.proofs.moving.put_rest.Statement.{statement}
@@ -18,7 +17,7 @@ returns c =
     let after =
     rest-going _ _ m (sym (moved .before .moves .ensures) ∙ moved .if1 .taken) (sym (tested .ends .ensures) ∙ not-true _ (runs .if2 .taken)) in
     let own = c .own-moved .ensures in
-    (head .head-moved .ensures ∙ after .0, (own .0 ∙ after .1, own .1))
+    (refl, (head .head-moved .ensures ∙ after .0, (own .0 ∙ after .1, own .1)))
 
 returns-2 : tie.Need-returns-2
 returns-2 c =
@@ -28,13 +27,13 @@ returns-2 c =
     let m = moved .before .before .args .m in
     let after =
     rest-end _ _ m (sym (moved .before .moves .ensures) ∙ moved .if1 .taken) (sym (tested .ends .ensures) ∙ not-false _ (c .if2 .left)) in
-    (head .head-moved .ensures ∙ after .0, (after .1, refl))
+    (refl, (head .head-moved .ensures ∙ after .0, (after .1, refl)))
 
 returns-3 : tie.Need-returns-3
 returns-3 c =
     let m = c .before .before .args .m in
     let after = rest-nothing _ _ m (sym (c .before .moves .ensures) ∙ c .if1 .left) in
-    (after .0, (after .1, refl))
+    (refl, (after .0, (after .1, refl)))
 
 pub put-rest-spec : {M : Type 1} → statement M
 put-rest-spec =

@@ -27,8 +27,8 @@ returns-3 c =
     let done = c .before in
     let lent = done .before .before .before .before in
     let told = lent .before .before .before .before in (
-      rw (told .before .op3 .given .1) (done .put .ensures .0),
-      rw (told .before .op3 .given .1) (done .put .ensures .1),
+      rw (told .before .op3 .given .1) (done .push-pooled .ensures .0),
+      rw (told .before .op3 .given .1) (done .push-pooled .ensures .1),
     )
 
 returns-4 : tie.Need-returns-4

@@ -2,9 +2,8 @@
 use mathlib.Core.Path.{refl}
 use Rattle.model.specs.Calls.{actOn}
 use Rattle.calls.proofs.Starts.{pop-begun}
-use Rattle.rows.proofs.Starting.{started, pop-starts}
+use Rattle.rows.proofs.{Starting.{started, pop-starts}, op.pop.Statement.statement}
 use borrow.Author.Needs.{needs}
-use Rattle.rows.proofs.op.pop.Statement.{statement}
 use Rattle.rows.proofs.op.pop.Tie as tie
 
 returns : tie.Need-returns

@@ -2,9 +2,8 @@
 use mathlib.Core.Path.{refl}
 use Rattle.model.specs.Calls.{actOn}
 use Rattle.calls.proofs.Starts.{push-begun}
-use Rattle.rows.proofs.Starting.{started, push-starts}
+use Rattle.rows.proofs.{Starting.{started, push-starts}, op.push.Statement.statement}
 use borrow.Author.Needs.{needs}
-use Rattle.rows.proofs.op.push.Statement.{statement}
 use Rattle.rows.proofs.op.push.Tie as tie
 
 returns : tie.Need-returns

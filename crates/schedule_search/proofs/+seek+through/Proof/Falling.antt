@@ -2,8 +2,7 @@
 use mathlib.Core.Path.{_≡_}
 use Prim.Native.Nat.{ℕ, _-_, _*_, _<_}
 use lib.ListN.{length}
-use borrow.Fn.Kinds.{In}
-use borrow.Fn.PlainCycle.{Measures, is, falls, and}
+use borrow.Fn.{Kinds.In, PlainCycle.{Measures, is, falls, and}}
 use Rattle.rows.specs.Rows.{queueIn}
 use Rattle.schedule_search.specs.Sought.{seeking, under}
 use Rattle.schedule_search.proofs.Seeking.{Turn}

@@ -1,8 +1,7 @@
 -- Anchor and the head, and five words stored.
 use mathlib.Core.Path.{ap, _∙_}
 use borrow.Author.Needs.{needs}
-use Rattle.model.specs.declared.Control.{Control}
-use Rattle.model.specs.Tables.{tablesOf, withWords}
+use Rattle.model.specs.{declared.Control.Control, Tables.{tablesOf, withWords}}
 use Rattle.schedule_search.proofs.undo.put_back.Statement.{statement}
 use Rattle.schedule_search.proofs.undo.put_back.Tie as tie
 

@@ -1,7 +1,6 @@
 -- The row and the words read, then the row moved on.
 use borrow.Author.Needs.{needs}
-use Rattle.schedule_search.proofs.Stepping.{steps}
-use Rattle.schedule_search.proofs.undo.step.Statement.{statement}
+use Rattle.schedule_search.proofs.{Stepping.steps, undo.step.Statement.statement}
 use Rattle.schedule_search.proofs.undo.step.Tie as tie
 
 -- The row is there.

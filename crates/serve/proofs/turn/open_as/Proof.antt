@@ -1,6 +1,5 @@
 -- Either opening is the one that is called for.
-use mathlib.Core.Path.{sym, ap, _∙_}
-use mathlib.Core.Bool.{Bool}
+use mathlib.Core.{Path.{sym, ap, _∙_}, Bool.Bool}
 use borrow.Author.Needs.{needs}
 use Rattle.model.specs.Calls.{openAs}
 use Rattle.rows.specs.Rows.{queueIn, uppersOf}

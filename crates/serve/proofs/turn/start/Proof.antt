@@ -2,12 +2,10 @@
 use mathlib.Core.Path.{_≡_, sym, ap, _∙_}
 use native.Mathlib.Omega.{arith}
 use borrow.Author.Needs.{needs}
-use Rattle.model.specs.declared.Op.{Op}
-use Rattle.model.specs.Calls.{act}
+use Rattle.model.specs.{declared.Op.Op, Calls.act}
 use Rattle.rows.specs.Rows.{queueIn, uppersOf, writesRow}
 use Rattle.capi.specs.Replies.{Replied, replied}
-use Rattle.serve.proofs.Served.{a-push, a-pop, a-put}
-use Rattle.serve.proofs.turn.start.Statement.{statement}
+use Rattle.serve.proofs.{Served.{a-push, a-pop, a-push-pooled}, turn.start.Statement.statement}
 use Rattle.serve.proofs.turn.start.Tie as tie
 
 -- From the first test to the start; what each operation answers.
@@ -43,7 +41,7 @@ returns-3 c =
     let push = pop .before .before in
     let start = first (push .before) in
     let named : start .args .request .operation ≡ 2 = omega (arith, start .pre, push .if1 .left, pop .if2 .left) in
-    done .zc-push-pooled .ensures ∙ ap (answer (push .before)) (sym (a-put _ _ _ _ named))
+    done .zc-push-pooled .ensures ∙ ap (answer (push .before)) (sym (a-push-pooled _ _ _ _ named))
 
 pub start-spec : {M : Type 1} → statement M
 start-spec =

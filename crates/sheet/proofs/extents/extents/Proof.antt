@@ -1,10 +1,8 @@
--- The walk goes the way that it begins.
+-- What is gathered, by where the walk begins.
 use mathlib.Core.Path.{_≡_, sym, ap, _∙_}
-use Rattle.walk.specs.declared.Way.{Way}
-use Rattle.walk.specs.Ways.{wayOf}
-use Rattle.sheet.specs.Extents.{Extents, extents, told}
-use Rattle.sheet.proofs.Gather.{from-first, from-none}
 use borrow.Author.Needs.{needs}
+use Rattle.walk.{specs.{declared.Beginning.Beginning, Ways.{wayOf, beginningOf}}, proofs.Along.begins-at}
+use Rattle.sheet.specs.Extents.{Extents, extents}
 use Rattle.sheet.proofs.extents.extents.Statement.{statement}
 use Rattle.sheet.proofs.extents.extents.Tie as tie
 
@@ -15,49 +13,47 @@ module _ (b : tie.After-begin) where
   abbrev unnoted : Extents
   unnoted = record { low = start .args .low .now; high = start .args .high .now }
 
-  on-its-way : (let a = start .args in extents (b .begin .result) (a .listed .now) (a .lefts .now) (a .rights .now) (a .labels .now) unnoted
-      ≡ extents (wayOf (a .c)) (a .listed .now) (a .lefts .now) (a .rights .now) (a .labels .now) unnoted)
-  on-its-way =
+  begun : (r : Beginning) → b .begin .result ≡ r
+      → (let a = start .args in extents r (a .listed .now) (a .lefts .now) (a .rights .now) (a .labels .now) unnoted
+      ≡ extents (beginningOf (a .c)) (a .listed .now) (a .lefts .now) (a .rights .now) (a .labels .now) unnoted)
+  begun r e =
       let a = start .args in
-      ap (λ (w : Way). extents w (a .listed .now) (a .lefts .now) (a .rights .now) (a .labels .now) unnoted) (b .begin .ensures)
+      ap (λ (r : Beginning). extents r (a .listed .now) (a .lefts .now) (a .rights .now) (a .labels .now) unnoted) (sym e ∙ b .begin .ensures)
 
 gather-requires : tie.Need-gather-requires
 unfolding wayOf
 gather-requires c κs =
-    let t = c .before .before in
-    let b = t .before .before in
-    (rw (b .begin .ensures) (start b .pre), sym (t .before .from1 .ensures) ∙ t .if1 .taken)
+    let k = c .before .before .before in
+    let b = k .before .before in
+    let at = begins-at (start b .args .c) (k .start .given .0 .0) (sym (k .start .given .1) ∙ b .begin .ensures) in
+    (rw (at .0) (start b .pre), at .1)
 
 returns : tie.Need-returns
-returns c =
-    let g = c .before .before .before .before in
-    let t = g .before .before .before in
-    let b = t .before .before in
-    let a = start b .args in
-    g .gather .ensures
-    ∙ from-first (b .begin .result) (a .listed .now) (a .lefts .now) (a .rights .now) (a .labels .now) (unnoted b)
-    (sym (t .before .from1 .ensures) ∙ t .if1 .taken)
-    ∙ on-its-way b
+unfolding extents
+returns c = begun (c .before .before) _ (c .enum-told .given .1)
 
 returns-2 : tie.Need-returns-2
-returns-2 c =
-    let e = c .before in
-    let b = e .before .before in
-    let a = start b .args in
-    ap (λ r. told r (a .low .now) (a .high .now)) (c .none-on .ensures)
-    ∙ from-none (b .begin .result) (a .listed .now) (a .lefts .now) (a .rights .now) (a .labels .now) (unnoted b)
-    (sym (e .before .from1 .ensures) ∙ e .if1 .left)
-    ∙ on-its-way b
+unfolding extents
+returns-2 c = begun (c .before .before) _ (c .enum-told2 .given .1)
+
+returns-3 : tie.Need-returns-3
+unfolding extents
+returns-3 c =
+    let g = c .before .before .before .before in
+    let k = g .before .before .before .before in
+    g .gather .ensures ∙ begun (k .before .before) _ (k .start .given .1)
 
 pub extents-spec : {M : Type 1} → statement M
 extents-spec =
     tie.close
     (tie.spec
-    (λ c κs. search needs)
-    (λ c κs. search needs)
+    (λ _ _. tt)
+    (λ c. search needs)
+    (λ c. search needs)
+    (λ c. search needs)
     gather-requires
-    (λ c. search needs)
-    (λ c. search needs)
     returns
-    (λ c κs. search needs)
-    returns-2)
+    returns-2
+    (λ c. search needs)
+    (λ c. search needs)
+    returns-3)

@@ -1,20 +1,15 @@
 -- With so many slots left: what comes of the positions noted along the rest of the walk is what the whole walk notes.
-use mathlib.Core.Path.{_≡_, refl, sym, ap, subst, _∙_}
-use mathlib.Core.Bool.{true}
-use mathlib.Core.List.{List, []}
+use mathlib.Core.{Path.{_≡_, refl, sym, ap, subst, _∙_}, Bool.true, List.{List, []}}
 use Prim.Native.Nat.{ℕ, _≤_, _-_, _+_, _<_}
 use native.Mathlib.Omega.{arith}
 use lib.ListN.{length, getD}
 use borrow.Author.Needs.{needs}
 use Rattle.model.specs.Sound.{from1}
-use Rattle.walk.specs.declared.Way.{Way}
-use Rattle.walk.specs.Ways.{ahead}
-use Rattle.walk.specs.Over.{made, over}
-use Rattle.walk.proofs.Along.{comes, begins, full, breaks, stops, goes, real}
+use Rattle.walk.specs.{declared.{Led.{Led, the-variants.{Broken, Last, Slot}}, Way.Way}, Ways.ahead}
+use Rattle.walk.{specs.Over.{Made, made, lost, over}, proofs.Along.{comes, begins, full, turned, turns, led-to}}
 use Rattle.sheet.specs.Extents.{Noting, noted, firstAt, nextAt, ended}
 use Rattle.sheet.proofs.Turns.{position, position-first, position-on, position-low, position-high}
-use Rattle.sheet.proofs.Gather.{noted-is}
-use Rattle.sheet.proofs.extents.gather.Statement.{statement}
+use Rattle.sheet.proofs.{Gather.noted-is, extents.gather.Statement.statement}
 use Rattle.sheet.proofs.extents.gather.Tie as tie
 
 abbrev with : ℕ → List ℕ → List ℕ → Noting
@@ -90,47 +85,51 @@ module _ (raised : tie.After-raise Inv-loop μ-loop) where
       (turn .loop .at) (turn .loop .low) (turn .loop .high) _ _
       (place .place-from .ensures) (place .before .label-at .ensures) (lowered .lower .ensures) (raised .raise .ensures)
 
-returns : tie.Need-returns Inv-loop μ-loop
-returns c =
-    let raised = c .before .before .before .before in
-    let l = turn raised in
-    let a = given l .args in
-    ap ended
-    (ap made (here raised)
-    ∙ sym (stops (noted (a .w .rightward) (a .listed .now)) (a .w) (a .lefts .now) (a .rights .now) (a .labels .now) (met raised) (l .loop .x)
-    (with (l .loop .at) (l .loop .low) (l .loop .high)) (near raised) (l .loop .inv .on) (c .if1 .taken))
-    ∙ l .loop .inv .notes)
-
--- Where the link leads.
+-- A turn, by where the walk goes on.
 module _ (v : tie.After-leads Inv-loop μ-loop) where
   abbrev raise : tie.After-raise Inv-loop μ-loop
-  raise = v .before .before .before .before .before
+  raise = v .before .before .before
 
-  onwards : (let l = turn raise in let a = given l .args in let f = noted (a .w .rightward) (a .listed .now) in
-      comes f (a .w) (a .lefts .now) (a .rights .now) (a .labels .now) (met raise + 1)
-      (with (nextAt (a .w .rightward) (l .loop .at)) (lowered raise .lower .last .0) (raise .raise .last .0)) (v .leads .result)
-      ≡ over f (with (firstAt (a .w .rightward)) (a .low .now) (a .high .now)) (ahead (a .w) (a .lefts .now) (a .rights .now) (a .labels .now)))
-  onwards =
+  abbrev onwards : Led → Made Noting
+  onwards Last = made (with (nextAt (given (turn raise) .args .w .rightward) (turn raise .loop .at)) (lowered raise .lower .last .0) (raise .raise .last .0))
+  onwards Broken = lost
+  onwards (Slot y) =
+      let l = turn raise in
+      let a = given l .args in
+      comes (noted (a .w .rightward) (a .listed .now)) (a .w) (a .lefts .now) (a .rights .now) (a .labels .now) (met raise + 1)
+      (with (nextAt (a .w .rightward) (l .loop .at)) (lowered raise .lower .last .0) (raise .raise .last .0)) y
+
+  on : (r : Led) → v .leads .result ≡ r → (let a = given (turn raise) .args in
+      onwards r ≡ over (noted (a .w .rightward) (a .listed .now)) (with (firstAt (a .w .rightward)) (a .low .now) (a .high .now))
+      (ahead (a .w) (a .lefts .now) (a .rights .now) (a .labels .now)))
+  on r e =
       let l = turn raise in
       let a = given l .args in
       let f = noted (a .w .rightward) (a .listed .now) in
-      (λ i. comes f (a .w) (a .lefts .now) (a .rights .now) (a .labels .now) (met raise + 1) (here raise i) (v .leads .ensures i))
-      ∙ sym (goes f (a .w) (a .lefts .now) (a .rights .now) (a .labels .now) (met raise) (l .loop .x) (with (l .loop .at) (l .loop .low) (l .loop .high))
-      (near raise) (l .loop .inv .on) (v .before .if1 .left))
+      same r
+      ∙ sym (turns f (a .w) (a .lefts .now) (a .rights .now) (a .labels .now) (met raise) (l .loop .x) (with (l .loop .at) (l .loop .low) (l .loop .high))
+      (near raise) (l .loop .inv .on) r (sym e ∙ v .leads .ensures))
       ∙ l .loop .inv .notes
+    where
+      same : (r : Led) → (let l = turn raise in let a = given l .args in onwards r ≡ turned (noted (a .w .rightward) (a .listed .now))
+          (a .w) (a .lefts .now) (a .rights .now) (a .labels .now) (met raise) (l .loop .x) (with (l .loop .at) (l .loop .low) (l .loop .high))
+          (near raise) (l .loop .inv .on) r)
+      same Last = ap made (here raise)
+      same Broken = refl
+      same (Slot y) =
+          let a = given (turn raise) .args in
+          ap (λ (s : Noting). comes (noted (a .w .rightward) (a .listed .now)) (a .w) (a .lefts .now) (a .rights .now) (a .labels .now) (met raise + 1) s y)
+          (here raise)
+
+returns : tie.Need-returns Inv-loop μ-loop
+returns c = ap ended (on (c .before .before) _ (c .enum-told .given .1))
 
 returns-2 : tie.Need-returns-2 Inv-loop μ-loop
-returns-2 c =
-    let v = c .before in
-    let l = turn (raise v) in
-    let a = given l .args in
-    ap ended
-    (sym (breaks (noted (a .w .rightward) (a .listed .now)) (a .w) (a .lefts .now) (a .rights .now) (a .labels .now) (met (raise v) + 1) _ _ (c .if2 .taken))
-    ∙ onwards v)
+returns-2 c = ap ended (on (c .before .before) _ (c .enum-told2 .given .1))
 
 next-at-requires : tie.Need-next-at-requires Inv-loop μ-loop
 next-at-requires c κs =
-    let r = raise (c .before) in
+    let r = raise (c .before .before .before) in
     let l = turn r in
     let up = given l .args .w .rightward in
     let h : met r < 1023 = omega (arith, near r, given l .pre .0) in (
@@ -140,7 +139,9 @@ next-at-requires c κs =
 
 loop-again : tie.Need-loop-again Inv-loop μ-loop
 loop-again c =
-    let v = c .before .before in
+    let k = c .before .before in
+    let v = k .before .before in
+    let y = k .next .given .0 .0 in
     let r = raise v in
     let l = turn r in
     let a = given l .args in
@@ -148,14 +149,14 @@ loop-again c =
     let z : met r + 1 ≡ a .w .slots - (l .loop .left - 1) = omega (arith, some r, l .loop .inv .few) in
     record {
       few = omega (arith, l .loop .inv .few);
-      on = rw (v .leads .ensures) (real (a .w) (a .lefts .now) (a .rights .now) [] (l .loop .x) (rw (← v .leads .ensures) (c .before .if2 .left)));
+      on = led-to (a .w) (a .lefts .now) (a .rights .now) [] (l .loop .x) y (sym (k .next .given .1) ∙ v .leads .ensures);
       place = c .next-at .ensures ∙ ap (nextAt up) (l .loop .inv .place) ∙ position-on up (met r) ∙ ap (position up) z;
       lows = search needs;
       highs = search needs;
       notes =
           (λ i. comes (noted up (a .listed .now)) (a .w) (a .lefts .now) (a .rights .now) (a .labels .now) (sym z i)
-          (with (c .next-at .ensures i) (lowered r .lower .last .0) (r .raise .last .0)) (v .leads .result))
-          ∙ onwards v;
+          (with (c .next-at .ensures i) (lowered r .lower .last .0) (r .raise .last .0)) y)
+          ∙ on v _ (k .next .given .1);
     }
 
 returns-3 : tie.Need-returns-3 Inv-loop μ-loop
@@ -179,13 +180,16 @@ gather-spec =
     (λ c κs. search needs)
     (λ c κs. search needs)
     (λ c κs. search needs)
-    (λ c. search needs)
-    (λ c. search needs)
-    returns
     (λ c κs. search needs)
     (λ c. search needs)
     (λ c. search needs)
+    (λ c. search needs)
+    returns
+    (λ c. search needs)
+    (λ c. search needs)
+    (λ c. search needs)
     returns-2
+    (λ c. search needs)
     next-at-requires
     (λ c. search needs)
     (λ c. search needs)

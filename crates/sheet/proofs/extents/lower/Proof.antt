@@ -1,6 +1,5 @@
-use Rattle.sheet.proofs.Turns.{lower-out, lower-put, lower-kept}
+use Rattle.sheet.proofs.{Turns.{lower-out, lower-put, lower-kept}, extents.lower.Statement.statement}
 use borrow.Author.Needs.{needs}
-use Rattle.sheet.proofs.extents.lower.Statement.{statement}
 use Rattle.sheet.proofs.extents.lower.Tie as tie
 
 returns : tie.Need-returns

@@ -1,6 +1,5 @@
-use Rattle.sheet.proofs.Turns.{higher-out, higher-put, higher-kept}
+use Rattle.sheet.proofs.{Turns.{higher-out, higher-put, higher-kept}, extents.raise.Statement.statement}
 use borrow.Author.Needs.{needs}
-use Rattle.sheet.proofs.extents.raise.Statement.{statement}
 use Rattle.sheet.proofs.extents.raise.Tie as tie
 
 returns : tie.Need-returns

@@ -3,8 +3,7 @@ use mathlib.Core.Path.{_≡_, refl}
 use lib.ListN.{length, drop}
 use borrow.Author.Needs.{needs}
 use Rattle.sheet_model.specs.Sheet.{twice}
-use Rattle.sheet.proofs.Turns.{twice-here, twice-on, twice-end}
-use Rattle.sheet.proofs.form.listed_twice.Statement.{statement}
+use Rattle.sheet.proofs.{Turns.{twice-here, twice-on, twice-end}, form.listed_twice.Statement.statement}
 use Rattle.sheet.proofs.form.listed_twice.Tie as tie
 
 abbrev Inv-loop : tie.InvT-loop

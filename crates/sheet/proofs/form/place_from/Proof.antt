@@ -1,12 +1,10 @@
 use Prim.Native.Nat.{ℕ, _≤_, _-_, _+_, _<_}
-use mathlib.Core.List.{List}
-use mathlib.Core.Path.{_≡_, refl, sym, ap, _∙_}
+use mathlib.Core.{List.List, Path.{_≡_, refl, ap, _∙_}}
 use native.Mathlib.Omega.{arith}
 use lib.ListN.{length, drop, getD}
 use borrow.Author.Needs.{needs}
 use Rattle.sheet.specs.Extents.{placeOf}
-use Rattle.sheet.proofs.Turns.{place-here, place-on, place-end}
-use Rattle.sheet.proofs.form.place_from.Statement.{statement}
+use Rattle.sheet.proofs.{Turns.{place-here, place-on, place-end}, form.place_from.Statement.statement}
 use Rattle.sheet.proofs.form.place_from.Tie as tie
 
 -- The place of x, counted from the list's start, by what is left from k on.

@@ -4,8 +4,7 @@ use lib.ListN.{length, drop}
 use borrow.Author.Needs.{needs}
 use Rattle.model.specs.Sound.{from1}
 use Rattle.sheet_model.specs.Sheet.{any, outside}
-use Rattle.sheet.proofs.Turns.{any-here, any-on, any-end}
-use Rattle.sheet.proofs.form.points_outside.Statement.{statement}
+use Rattle.sheet.proofs.{Turns.{any-here, any-on, any-end}, form.points_outside.Statement.statement}
 use Rattle.sheet.proofs.form.points_outside.Tie as tie
 
 abbrev Inv-loop : tie.InvT-loop

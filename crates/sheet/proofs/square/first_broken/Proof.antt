@@ -1,20 +1,13 @@
 -- The first r rules are marked; then for the first k places each row with the place marked has its marks, of row k the first i rows.
-use mathlib.Core.Bool.{not}
-use mathlib.Core.List.{List, []}
-use mathlib.Core.Logic.{⊎-elim}
-use mathlib.Core.Path.{_≡_, refl, sym, ap, _∙_}
+use mathlib.Core.{Bool.not, List.{List, []}, Logic.⊎-elim, Path.{_≡_, refl, sym, ap, _∙_}}
 use Prim.Native.Nat.{ℕ, _≤_, _-_}
 use native.Mathlib.Omega.{arith}
-use lib.ListN.{length, drop, getD, set, length-set, replicate, length-replicate}
-use lib.Seq.{set-getD}
-use borrow.Author.Needs.{needs}
-use borrow.Author.Tests.{eq-eqb, ne-eqb}
+use lib.{ListN.{length, drop, getD, set, length-set, replicate, length-replicate}, Seq.set-getD}
+use borrow.Author.{Needs.needs, Tests.{eq-eqb, ne-eqb}}
 use Rattle.sheet_model.specs.Words.{linked}
-use Rattle.sheet.specs.Squares.{byteRow, squareOf, rulesMarked, sweep, joinVia, rounds, crossed}
-use Rattle.sheet.specs.Search.{inRows}
-use Rattle.sheet.proofs.ByteRows.{square-chained}
-use Rattle.sheet.proofs.Turns.{Inside, rules-on, rules-end, inside}
-use Rattle.sheet.proofs.Turns.{join-taken, join-left, sweep-on, sweep-end, rounds-on, rounds-end, all-left}
+use Rattle.sheet.specs.{Squares.{byteRow, squareOf, rulesMarked, sweep, joinVia, rounds, crossed}, Search.inRows}
+use Rattle.sheet.proofs.{ByteRows.square-chained, Turns.{sweep-end, rounds-on, rounds-end, all-left}}
+use Rattle.sheet.proofs.Turns.{Inside, rules-on, rules-end, inside, join-marked, join-unmarked, sweep-on}
 use Rattle.sheet.proofs.square.first_broken.Statement.{statement}
 use Rattle.sheet.proofs.square.first_broken.Tie as tie
 
@@ -103,8 +96,8 @@ loop3-again c =
       ⊎-elim (λ w. ap length (w .3) ∙ (simp length-set (turn .loop3 .inv .1)))
           (λ w. ap length (w .1) ∙ turn .loop3 .inv .1) (c .if1 .came),
       ap (sweep [] _ _ _)
-          (⊎-elim (λ w. w .3 ∙ ap (set m i) (w .2 .ensures ∙ sym (join-taken byteRow k _ 0 _ (ap not (ne-eqb _ 0 (w .0 .taken))))))
-          (λ w. w .1 ∙ sym (ap (set m i) (join-left byteRow k _ 0 _ (ap not (eq-eqb _ 0 (w .0 .left)))) ∙ set-getD m i [])) (c .if1 .came))
+          (⊎-elim (λ w. w .3 ∙ ap (set m i) (w .2 .ensures ∙ sym (join-marked byteRow k _ 0 _ (ap not (ne-eqb _ 0 (w .0 .taken))))))
+          (λ w. w .1 ∙ sym (ap (set m i) (join-unmarked byteRow k _ 0 _ (ap not (eq-eqb _ 0 (w .0 .left)))) ∙ set-getD m i [])) (c .if1 .came))
           ∙ sym (sweep-on n i [] (joinVia byteRow _ _) _ (search needs)) ∙ turn .loop3 .inv .2,
     )
 

@@ -2,8 +2,7 @@ use Prim.Native.Nat.{_≤_, _-_}
 use mathlib.Core.Path.{_≡_, refl, sym, _∙_}
 use borrow.Author.Needs.{needs}
 use Rattle.sheet.specs.Squares.{sweep, ored, joinRow}
-use Rattle.sheet.proofs.Turns.{sweep-on, sweep-end}
-use Rattle.sheet.proofs.square.join_row.Statement.{statement}
+use Rattle.sheet.proofs.{Turns.{sweep-on, sweep-end}, square.join_row.Statement.statement}
 use Rattle.sheet.proofs.square.join_row.Tie as tie
 
 abbrev Inv-loop : tie.InvT-loop

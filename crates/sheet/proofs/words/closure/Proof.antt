@@ -1,13 +1,10 @@
-use mathlib.Core.List.{List, _++_}
-use mathlib.Core.Path.{_≡_, ap, _∙_}
+use mathlib.Core.{List.{List, _++_}, Path.{_≡_, ap, _∙_}}
 use Prim.Native.Nat.{ℕ, _≤_}
 use lib.ListN.{length, drop, replicate}
-use borrow.Author.Tests.{le-leb}
+use borrow.Author.{Tests.le-leb, Needs.needs}
 use Rattle.table.specs.Zeroing.{zeroing}
 use Rattle.sheet.specs.Squares.{bitRow, rulesMarked, rounds}
-use Rattle.sheet.proofs.BitRows.{words-chained}
-use borrow.Author.Needs.{needs}
-use Rattle.sheet.proofs.words.closure.Statement.{statement}
+use Rattle.sheet.proofs.{BitRows.words-chained, words.closure.Statement.statement}
 use Rattle.sheet.proofs.words.closure.Tie as tie
 
 zeroed-all : (l : List ℕ) → 32 ≤ length l → zeroing 32 l ≡ replicate 32 0 ++ drop 32 l

@@ -1,13 +1,9 @@
-use mathlib.Core.Logic.{⊎-elim}
-use lib.ListN.{set, length-set}
-use lib.Seq.{set-getD}
-use borrow.Author.Tests.{eq-eqb, ne-eqb}
+use mathlib.Core.{Logic.⊎-elim, Path.{_≡_, refl, sym, ap, _∙_}}
+use lib.{ListN.{set, length-set, length, getD}, Seq.set-getD}
+use borrow.Author.{Tests.{eq-eqb, ne-eqb}, Needs.needs}
 use Prim.Native.Nat.{ℕ, _≤_, _-_}
-use mathlib.Core.Path.{_≡_, refl, sym, ap, _∙_}
-use lib.ListN.{length, getD}
-use borrow.Author.Needs.{needs}
 use Rattle.sheet.specs.Squares.{bitRow, sweep, joinVia, rounds}
-use Rattle.sheet.proofs.Turns.{join-taken, join-left, sweep-on, sweep-end, rounds-on, rounds-end, all-left}
+use Rattle.sheet.proofs.Turns.{join-marked, join-unmarked, sweep-on, sweep-end, rounds-on, rounds-end, all-left}
 use Rattle.sheet.proofs.words.join.Statement.{statement}
 use Rattle.sheet.proofs.words.join.Tie as tie
 
@@ -49,8 +45,8 @@ loop2-again c =
       ⊎-elim (λ w. ap length (w .2) ∙ (simp length-set (turn .loop2 .inv .1)))
           (λ w. ap length (w .1) ∙ turn .loop2 .inv .1) (c .if1 .came),
       ap (sweep 0 _ _ _)
-          (⊎-elim (λ w. w .2 ∙ ap (set m i) (sym (join-taken bitRow k _ 0 _ (eq-eqb _ 1 (w .0 .taken)))))
-          (λ w. w .1 ∙ sym (ap (set m i) (join-left bitRow k _ 0 _ (ne-eqb _ 1 (w .0 .left))) ∙ set-getD m i 0)) (c .if1 .came))
+          (⊎-elim (λ w. w .2 ∙ ap (set m i) (sym (join-marked bitRow k _ 0 _ (eq-eqb _ 1 (w .0 .taken)))))
+          (λ w. w .1 ∙ sym (ap (set m i) (join-unmarked bitRow k _ 0 _ (ne-eqb _ 1 (w .0 .left))) ∙ set-getD m i 0)) (c .if1 .came))
           ∙ sym (sweep-on n i 0 (joinVia bitRow _ _) _ (search needs)) ∙ turn .loop2 .inv .2,
     )
 

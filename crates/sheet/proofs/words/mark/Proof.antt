@@ -6,8 +6,7 @@ use borrow.Author.Needs.{needs}
 use native.Mathlib.Omega.{arith}
 use Rattle.sheet.specs.Squares.{bitRow, rulesMarked}
 use Rattle.sheet_model.specs.Sheet.{after}
-use Rattle.sheet.proofs.BitRows.{shl-one}
-use Rattle.sheet.proofs.Turns.{Inside, rules-on, rules-end, inside}
+use Rattle.sheet.proofs.{BitRows.shl-one, Turns.{Inside, rules-on, rules-end, inside}}
 use Rattle.sheet.proofs.words.mark.Statement.{statement}
 use Rattle.sheet.proofs.words.mark.Tie as tie
 

@@ -1,11 +1,9 @@
 -- Copied to a table of its own and on from there.
-use mathlib.Core.List.{List}
-use mathlib.Core.Path.{_∙_, ap}
+use mathlib.Core.{List.List, Path.{_∙_, ap}}
 use Prim.Native.Nat.{ℕ}
 use borrow.Author.Needs.{needs}
 use Rattle.shelf.specs.Pasting.{pasted}
-use Rattle.shelf.proofs.Pasting.{own-long, pasted-twice, small}
-use Rattle.shelf.proofs.paste.move_words.Statement.{statement}
+use Rattle.shelf.proofs.{Pasting.{own-long, pasted-twice, small}, paste.move_words.Statement.statement}
 use Rattle.shelf.proofs.paste.move_words.Tie as tie
 
 -- What it was given.

@@ -1,8 +1,7 @@
 -- The test is the definition's; a shelf's part lies in the table.
 use borrow.Author.Needs.{needs}
 use Rattle.shelf.specs.Pasting.{onShelf}
-use Rattle.shelf.proofs.Pasting.{room}
-use Rattle.shelf.proofs.paste.on_shelf.Statement.{statement}
+use Rattle.shelf.proofs.{Pasting.room, paste.on_shelf.Statement.statement}
 use Rattle.shelf.proofs.paste.on_shelf.Tie as tie
 
 returns : tie.Need-returns

@@ -1,9 +1,7 @@
 -- One side, the other, and the controls.
-use mathlib.Core.Bool.{Bool, _&&_}
-use mathlib.Core.Path.{ap₂, ap, _∙_}
+use mathlib.Core.{Bool.{Bool, _&&_}, Path.{ap₂, ap, _∙_}}
 use lib.Dec.{leb}
-use Rattle.sound.specs.declared.Lengths.{Lengths}
-use Rattle.sound.specs.Lengths.{tablesFit}
+use Rattle.sound.specs.{declared.Lengths.Lengths, Lengths.tablesFit}
 use Rattle.shelf.specs.Lengths.{bothFit}
 use Rattle.shelf.proofs.refusal.both_hold.Statement.{statement}
 use Rattle.shelf.proofs.refusal.both_hold.Tie as tie

@@ -1,6 +1,5 @@
 -- Tests made one after the other.
-use mathlib.Core.Path.{_≡_, sym, _∙_}
-use mathlib.Core.Bool.{true, false}
+use mathlib.Core.{Path.{_≡_, sym, _∙_}, Bool.{true, false}}
 use borrow.Author.Tests.{lt-leb, le-leb, not-true, not-false}
 use Rattle.model.specs.Sound.{controlSound}
 use Rattle.shelf.specs.Lengths.{saveNumber}

@@ -1,6 +1,5 @@
 -- The test is the definition's.
-use borrow.Author.Needs.{needs}
-use borrow.Author.Tests.{eq-eqb, ne-eqb}
+use borrow.Author.{Needs.needs, Tests.{eq-eqb, ne-eqb}}
 use Rattle.shelf.proofs.tables.next_rows.Statement.{statement}
 use Rattle.shelf.proofs.tables.next_rows.Tie as tie
 

@@ -1,11 +1,8 @@
 -- Refused by control or lengths, or by 13, or not at all.
-use mathlib.Core.Path.{_≡_, refl, sym, _∙_}
-use mathlib.Core.List.{[], _∷_, _++_}
-use mathlib.Core.Bool.{not}
+use mathlib.Core.{Path.{_≡_, refl, sym, _∙_}, List.{[], _∷_, _++_}, Bool.not}
 use lib.Dec.{ltb}
 use borrow.Author.Tests.{lt-ltb, le-ltb}
-use Rattle.model.specs.Refusals.{rule, first, tableRules, admission}
-use Rattle.model.proofs.tests.Rules.{first-passed, first-refused}
+use Rattle.model.{specs.Refusals.{rule, first, tableRules, admission}, proofs.tests.Rules.{first-passed, first-refused}}
 use Rattle.sound.specs.Lengths.{tablesFit}
 use Rattle.sound.proofs.admission.admit.Statement.{statement}
 use Rattle.sound.proofs.admission.admit.Tie as tie

@@ -1,10 +1,8 @@
 -- Each return is the first rule that applies, by the tests passed before it.
-use mathlib.Core.Path.{_≡_, sym, _∙_}
-use mathlib.Core.Bool.{Bool, true, false, _&&_}
+use mathlib.Core.{Path.{_≡_, sym, _∙_}, Bool.{Bool, true, false, _&&_}}
 use lib.Dec.{leb}
 use borrow.Author.Tests.{not-true, not-false}
-use Rattle.model.specs.Tables.{isPooled}
-use Rattle.model.specs.Sound.{controlSound}
+use Rattle.model.specs.{Tables.isPooled, Sound.controlSound}
 use Rattle.sound.specs.Lengths.{lengthsFit}
 use Rattle.sound.proofs.Asked.{by-tasks, by-anchor, by-slots, sound, by-next, by-rows}
 use Rattle.sound.proofs.admission.step_refusal.Statement.{statement}
@@ -49,17 +47,21 @@ returns-4 c =
 
 returns-5 : tie.Need-returns-5
 returns-5 c =
-    let none = c .before .before .before .before .before in
+    let rows = c .before in
+    let none = rows .before in
     let told = none .before in
     let s = a (told .before) .args in
-    by-rows (s .c) (s .t) (s .enough) (told .next-refusal .result) (told .next-refusal .ensures) (tested (told .before)) true (none .if4 .left) (c .if5 .taken)
+    by-rows (s .c) (s .t) (s .enough) (told .next-refusal .result) (told .next-refusal .ensures) (tested (told .before)) true (none .if4 .left)
+    (rw (← rows .rows-fit .ensures) (c .if5 .taken))
 
 returns-6 : tie.Need-returns-6
 returns-6 c =
-    let none = c .before .before .before .before .before in
+    let rows = c .before in
+    let none = rows .before in
     let told = none .before in
     let s = a (told .before) .args in
-    by-rows (s .c) (s .t) (s .enough) (told .next-refusal .result) (told .next-refusal .ensures) (tested (told .before)) false (none .if4 .left) (c .if5 .left)
+    by-rows (s .c) (s .t) (s .enough) (told .next-refusal .result) (told .next-refusal .ensures) (tested (told .before)) false (none .if4 .left)
+    (rw (← rows .rows-fit .ensures) (c .if5 .left))
 
 pub step-refusal-spec : {M : Type 1} → statement M
-step-refusal-spec = tie.close (tie.spec (λ _ _. tt) returns (λ _ _. tt) returns-2 (λ _ _. tt) returns-3 (λ _ _. tt) returns-4 returns-5 returns-6)
+step-refusal-spec = tie.close (tie.spec (λ _ _. tt) returns (λ _ _. tt) returns-2 (λ _ _. tt) returns-3 (λ _ _. tt) returns-4 (λ _ _. tt) returns-5 returns-6)

@@ -1,9 +1,8 @@
 use mathlib.Core.Path.{sym, ap, _∙_}
 use Rattle.rows.specs.Rows.{recordOf}
 use Rattle.threads_model.specs.Split.{plan}
-use Rattle.touch.proofs.Starting.{refused, begun}
+use Rattle.touch.proofs.{Starting.{refused, begun}, start.decides.Statement.statement}
 use borrow.Author.Needs.{needs}
-use Rattle.touch.proofs.start.decides.Statement.{statement}
 use Rattle.touch.proofs.start.decides.Tie as tie
 
 returns : tie.Need-returns

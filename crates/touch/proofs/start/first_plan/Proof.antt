@@ -1,16 +1,10 @@
-use mathlib.Core.Path.{_≡_, refl, sym, ap, _∙_}
-use mathlib.Core.Bool.{false}
+use mathlib.Core.{Path.{_≡_, refl, sym, ap, _∙_}, Bool.false}
 use Prim.Native.Nat.{ℕ}
 use lib.Dec.{eqb, leb}
-use borrow.Author.Tests.{eq-eqb, ne-eqb, le-leb, lt-leb}
-use Rattle.model.specs.declared.Call.{Call}
-use Rattle.model.specs.Tables.{started, asking}
-use Rattle.model.proofs.tests.Truth.{either}
-use Rattle.threads_model.specs.declared.Start.{Start}
-use Rattle.threads_model.specs.Split.{refuses, plan}
-use Rattle.threads_model.specs.Starts.{firstCall}
+use borrow.Author.{Tests.{eq-eqb, ne-eqb, le-leb, lt-leb}, Needs.needs}
+use Rattle.model.{specs.{declared.Call.Call, Tables.{started, asking}}, proofs.tests.Truth.either}
+use Rattle.threads_model.specs.{declared.Start.Start, Split.{refuses, plan}, Starts.firstCall}
 use Rattle.touch.proofs.Starting as by
-use borrow.Author.Needs.{needs}
 use Rattle.touch.proofs.start.first_plan.Statement.{statement}
 use Rattle.touch.proofs.start.first_plan.Tie as tie
 
@@ -58,7 +52,7 @@ returns-4 c =
 returns-5 : tie.Need-returns-5
 returns-5 c =
     let a = c .before .before .before .before .before .before .before .args in
-    by.put-plan (a .pooled) (a .slots) (a .s .side) (a .s .label) (le-leb _ _ (c .before .before .before .before .before .if1 .left)) (eq-eqb _ _
+    by.push-pooled-plan (a .pooled) (a .slots) (a .s .side) (a .s .label) (le-leb _ _ (c .before .before .before .before .before .if1 .left)) (eq-eqb _ _
     (c .if5 .taken))
     ∙ ap (plan (a .pooled) (a .slots)) (sym (draw (a .s) (c .before .before .before .if2 .left) (c .before .if4 .left)))
 

@@ -1,9 +1,8 @@
 use mathlib.Core.Path.{sym, ap, _∙_}
-use borrow.Author.Tests.{le-leb, lt-leb}
+use borrow.Author.{Tests.{le-leb, lt-leb}, Needs.needs}
 use Rattle.model.specs.declared.Call.{Call}
 use Rattle.rows.specs.Rows.{callOf}
 use Rattle.touch.proofs.Starting as by
-use borrow.Author.Needs.{needs}
 use Rattle.touch.proofs.start.own_refusal.Statement.{statement}
 use Rattle.touch.proofs.start.own_refusal.Tie as tie
 
@@ -21,7 +20,7 @@ returns-2 c =
 returns-3 : tie.Need-returns-3
 returns-3 c =
     let a = c .before .before .before .before .before .before .args in
-    by.no-slot (a .pooled) (a .slots) (callOf (a .task .now)) (a .s) (le-leb _ _ (c .before .before .before .before .if1 .left))
+    by.slot-outside (a .pooled) (a .slots) (callOf (a .task .now)) (a .s) (le-leb _ _ (c .before .before .before .before .if1 .left))
     (sym (c .before .before .before .wrong-push .ensures) ∙ c .before .before .if2 .left)
     (sym (c .before .outside .ensures) ∙ c .if3 .taken)
 
@@ -39,7 +38,7 @@ returns-5 c =
     let busy = c .before .before in
     let named = busy .before .before .before .before in
     let a = named .before .before .before .before .before .before .args in
-    by.taken-up (a .pooled) (a .slots) (callOf (a .task .now)) (a .s) (le-leb _ _ (named .before .before .before .before .if1 .left))
+    by.busy-call (a .pooled) (a .slots) (callOf (a .task .now)) (a .s) (le-leb _ _ (named .before .before .before .before .if1 .left))
     (sym (named .before .before .before .wrong-push .ensures) ∙ named .before .before .if2 .left)
     (sym (named .before .outside .ensures) ∙ named .if3 .left)
     (λ z. busy .if4 .left (ap (λ (r : Call). r .place) (busy .before .before .call-of .ensures) ∙ z))

@@ -1,7 +1,6 @@
 use mathlib.Core.Path.{_∙_}
-use Rattle.touch.proofs.Starting.{by-touch, at-slot}
+use Rattle.touch.proofs.{Starting.{by-touch, at-slot}, start.settle_start.Statement.statement}
 use borrow.Author.Needs.{needs}
-use Rattle.touch.proofs.start.settle_start.Statement.{statement}
 use Rattle.touch.proofs.start.settle_start.Tie as tie
 
 returns : tie.Need-returns

@@ -1,7 +1,6 @@
 use mathlib.Core.Path.{_∙_}
-use Rattle.touch.proofs.Starting.{loaded-none, loaded-on}
+use Rattle.touch.proofs.{Starting.{loaded-none, loaded-on}, start.start_loaded.Statement.statement}
 use borrow.Author.Needs.{needs}
-use Rattle.touch.proofs.start.start_loaded.Statement.{statement}
 use Rattle.touch.proofs.start.start_loaded.Tie as tie
 
 returns : tie.Need-returns

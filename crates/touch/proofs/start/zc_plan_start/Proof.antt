@@ -1,7 +1,6 @@
 use mathlib.Core.Path.{ap, _∙_}
 use Rattle.rows.specs.Rows.{callOf}
-use Rattle.threads_model.specs.declared.Start.{Start}
-use Rattle.threads_model.specs.Starts.{planStart}
+use Rattle.threads_model.specs.{declared.Start.Start, Starts.planStart}
 use borrow.Author.Needs.{needs}
 use Rattle.touch.proofs.start.zc_plan_start.Statement.{statement}
 use Rattle.touch.proofs.start.zc_plan_start.Tie as tie

@@ -1,7 +1,6 @@
 use mathlib.Core.Path.{ap, _∙_}
 use Rattle.rows.specs.Rows.{recordOf, upperOf}
-use Rattle.threads_model.specs.declared.Start.{Start}
-use Rattle.threads_model.specs.Starts.{settleStart}
+use Rattle.threads_model.specs.{declared.Start.Start, Starts.settleStart}
 use Rattle.touch.specs.Started.{startedBy}
 use borrow.Author.Needs.{needs}
 use Rattle.touch.proofs.start.zc_settle_start.Statement.{statement}

@@ -4,10 +4,8 @@ use Prim.Native.Nat.{_+_, _-_, _*_, _<_, _≤_}
 use native.Mathlib.Omega.{arith}
 use borrow.Author.Needs.{needs}
 use lib.{ListN.length, Seq.slice}
-use Rattle.trace_field.specs.Run.{eachOf}
-use Rattle.trace_field.specs.Page.{pageOf, operates}
-use Rattle.trace_field.proofs.Pages.{each-end, each-more}
-use Rattle.trace_field.proofs.acts.each.Statement.{statement}
+use Rattle.trace_field.specs.{Run.eachOf, Page.{pageOf, operates}}
+use Rattle.trace_field.proofs.{Pages.{each-end, each-more}, acts.each.Statement.statement}
 use Rattle.trace_field.proofs.acts.each.Tie as tie
 
 abbrev Inv-loop : tie.InvT-loop

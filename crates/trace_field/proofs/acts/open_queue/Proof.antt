@@ -3,12 +3,10 @@ use mathlib.Core.Path.{sym, subst, _∙_}
 use lib.ListN.{length}
 use Prim.Native.Nat.{_≤_}
 use borrow.Author.Needs.{needs}
-use Rattle.calls.specs.Opening.{OpenedParts}
-use Rattle.calls.proofs.Openings.{clear-fits}
+use Rattle.calls.{specs.Opening.OpenedParts, proofs.Openings.clear-fits}
 use Rattle.rows.proofs.Rows.{length-records, all-zeroed}
 use Rattle.lines.proofs.Puts.{put-fits}
-use Rattle.trace_field.proofs.AfterActs.{open-page}
-use Rattle.trace_field.proofs.acts.open_queue.Statement.{statement}
+use Rattle.trace_field.proofs.{AfterActs.open-page, acts.open_queue.Statement.statement}
 use Rattle.trace_field.proofs.acts.open_queue.Tie as tie
 
 -- The opening of the tables, and what it was given.

@@ -3,8 +3,7 @@ use Prim.Native.Nat.{_-_, _≤_}
 use mathlib.Core.Path.{refl}
 use native.Mathlib.Omega.{arith}
 use lib.ListN.{length}
-use borrow.Rule.Slice.PartMut.{take-put}
-use borrow.Author.Needs.{needs}
+use borrow.{Rule.Slice.PartMut.take-put, Author.Needs.needs}
 use Rattle.trace_stream.proofs.refill.read_more.Statement.{statement}
 use Rattle.trace_stream.proofs.refill.read_more.Tie as tie
 

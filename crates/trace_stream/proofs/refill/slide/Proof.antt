@@ -1,7 +1,6 @@
 -- The first i bytes are moved, and the others are as they were.
 use Prim.Native.Nat.{ℕ, suc, _≤_, _<_, _-_, _+_}
-use mathlib.Core.Path.{_≡_, refl, sym, ap, _∙_}
-use mathlib.Core.List.{List, [], _∷_, _++_}
+use mathlib.Core.{Path.{_≡_, refl, sym, ap, _∙_}, List.{List, [], _∷_, _++_}}
 use native.Mathlib.{Numerals.add-one, Omega.arith}
 use lib.ListN.{length, take, drop, getD, set, length-set, length-drop, drop-of-length-le}
 use lib.Seq.{slice, take-suc, take-suc-set, drop-set-lt, drop-drop, getD-drop, take-add, drop-at, length-take-le}

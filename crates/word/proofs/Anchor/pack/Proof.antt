@@ -1,8 +1,7 @@
 -- Each field is joined to those below it.
 use mathlib.Core.Path.{_∙_}
 use native.Mathlib.Omega.{arith}
-use Rattle.word.proofs.Fields.{field, low}
-use Rattle.word.proofs.Anchor.pack.Statement.{statement}
+use Rattle.word.proofs.{Fields.{field, low}, Anchor.pack.Statement.statement}
 use Rattle.word.proofs.Anchor.pack.Tie as tie
 
 returns : tie.Need-returns

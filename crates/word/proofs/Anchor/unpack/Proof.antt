@@ -2,8 +2,7 @@
 use mathlib.Core.Path.{refl}
 use Prim.Native.Nat.{_/_, _^_}
 use lib.Bits.{and-mask}
-use Rattle.word.proofs.Laws.{same-anchor}
-use Rattle.word.proofs.Anchor.unpack.Statement.{statement}
+use Rattle.word.proofs.{Laws.same-anchor, Anchor.unpack.Statement.statement}
 use Rattle.word.proofs.Anchor.unpack.Tie as tie
 
 returns : tie.Need-returns

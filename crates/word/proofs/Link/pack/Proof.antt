@@ -1,6 +1,5 @@
 -- The tag is joined to the slot.
-use Rattle.word.proofs.Fields.{field, low}
-use Rattle.word.proofs.Link.pack.Statement.{statement}
+use Rattle.word.proofs.{Fields.{field, low}, Link.pack.Statement.statement}
 use Rattle.word.proofs.Link.pack.Tie as tie
 
 returns : tie.Need-returns

@@ -1,8 +1,7 @@
 -- A mask of k ones is a remainder by 2 ^ k.
 use mathlib.Core.Path.{refl}
 use lib.Bits.{and-mask}
-use Rattle.word.proofs.Laws.{same-link}
-use Rattle.word.proofs.Link.unpack.Statement.{statement}
+use Rattle.word.proofs.{Laws.same-link, Link.unpack.Statement.statement}
 use Rattle.word.proofs.Link.unpack.Tie as tie
 
 returns : tie.Need-returns
