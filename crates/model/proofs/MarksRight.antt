@@ -23,6 +23,7 @@ use Rattle.model.proofs.Ledger.Waiting as waiting
 
 -- What waits is in the sequential deque.
 waits_in : (l : List Entry) (x : ℕ) → Waits x (entries l) → In x (slots l)
+waits_in [] x x3 = elim x3 [ ]
 waits_in (e ∷ l) x (here _ _ z) = inl z
 waits_in (e ∷ l) x (later _ _ w) = inr (waits_in l x w)
 
