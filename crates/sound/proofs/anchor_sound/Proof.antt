@@ -17,22 +17,22 @@ returns c = let ends = c.before.before in of_word ends.before.before _ (equal _ 
 returns-2 : tie.Need-returns-then-not-from1
 returns-2 c =
     let ends = c.before.before in
-    of_word ends.before.before _ (left_null _ _ ends.if-a.false (sym c.before.from1.ensures ∙ not-true _ c.if-not-from1.true))
+    of_word ends.before.before _ (left_null _ _ ends.if-a.false (sym c.before.from1.ensures ∙ c.if-not-from1.true))
 
 returns-3 : tie.Need-returns-then-not-from1-2
 returns-3 c =
     let left = c.before.before in
     let ends = left.before.before in
-    of_word ends.before.before _ (right_null _ _ ends.if-a.false (sym c.before.from1-2.ensures ∙ not-true _ c.if-not-from1-2.true))
+    of_word ends.before.before _ (right_null _ _ ends.if-a.false (sym c.before.from1-2.ensures ∙ c.if-not-from1-2.true))
 
-returns-4 : tie.Need-returns
+returns-4 : tie.Need-returns-then-a
 returns-4 c =
     let right = c.before in
     let left = right.before.before in
     let ends = left.before.before in
     of_word ends.before.before _
-    (both_slots _ _ ends.if-a.false (sym left.before.from1.ensures ∙ not-false _ left.if-not-from1.false)
-    (sym right.before.from1-2.ensures ∙ not-false _ right.if-not-from1-2.false))
+    (both_slots _ _ ends.if-a.false (sym left.before.from1.ensures ∙ left.if-not-from1.false)
+    (sym right.before.from1-2.ensures ∙ right.if-not-from1-2.false))
 
 pub anchor_sound_spec : {M : Type 1} → statement M
 anchor_sound_spec = tie.close (tie.spec (λ _ _. tt) returns (λ _ _. tt) returns-2 (λ _ _. tt) returns-3 returns-4)

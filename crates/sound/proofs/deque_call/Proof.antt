@@ -7,7 +7,7 @@ use Rattle.sound.proofs.deque_call.Tie as tie
 
 returns : tie.Need-returns-then-not-from1
 unfolding deque_call
-returns c = simp (eq-eqb _ _ c.before.before.if-r-eq0.true, sym c.before.from1.ensures ∙ not-true _ c.if-not-from1.true)
+returns c = simp (eq-eqb _ _ c.before.before.if-r-eq0.true, sym c.before.from1.ensures ∙ c.if-not-from1.true)
 
 returns-2 : tie.Need-returns-then-r-eq0-2
 unfolding deque_call
@@ -15,7 +15,7 @@ returns-2 c =
     let own = c.before.before in
     simp (
       eq-eqb _ _ own.before.before.if-r-eq0.true,
-      sym own.before.from1.ensures ∙ not-false _ own.if-not-from1.false,
+      sym own.before.from1.ensures ∙ own.if-not-from1.false,
       eq-eqb _ _ c.if-r-eq0-2.true,
     )
 
@@ -26,7 +26,7 @@ returns-3 c =
     let own = finishing.before.before in
     simp (
       eq-eqb _ _ own.before.before.if-r-eq0.true,
-      sym own.before.from1.ensures ∙ not-false _ own.if-not-from1.false,
+      sym own.before.from1.ensures ∙ own.if-not-from1.false,
       ne_eqb _ _ finishing.if-r-eq0-2.false,
     )
 
@@ -34,7 +34,7 @@ returns-4 : tie.Need-returns-then-r-ne1
 unfolding deque_call
 returns-4 c = simp (ne_eqb _ _ c.before.before.if-r-eq0.false, ne_eqb _ _ c.if-r-ne1.true)
 
-returns-5 : tie.Need-returns
+returns-5 : tie.Need-returns-then-not-from1
 returns-5 c = let pop = c.before.before in pops _ _ pop.before.before.if-r-eq0.false pop.if-r-ne1.false
 
 pub deque_call_spec : {M : Type 1} → statement M

@@ -17,14 +17,14 @@ module _ (u : tie.After-unpack-a) (b : Bool) where
 returns : tie.Need-returns-then-r-ge5
 returns c =
     let left = c.before.before in
-    of_word left.before.before _ (null_unstable _ _ _ (sym left.before.from1.ensures ∙ not-true _ left.if-not-from1.true) c.if-r-ge5.true)
+    of_word left.before.before _ (null_unstable _ _ _ (sym left.before.from1.ensures ∙ left.if-not-from1.true) c.if-r-ge5.true)
 
 returns-2 : tie.Need-returns-then-not-from1
 returns-2 c =
     let soon = c.before in
     let left = soon.before.before in
     let u = left.before.before in
-    of_word u _ (null_soon _ _ _ _ u.unpack-a.ensures (sym left.before.from1.ensures ∙ not-true _ left.if-not-from1.true) soon.if-r-ge5.false)
+    of_word u _ (null_soon _ _ _ _ u.unpack-a.ensures (sym left.before.from1.ensures ∙ left.if-not-from1.true) soon.if-r-ge5.false)
 
 -- The left end is a slot.
 module _ (past : tie.Else-not-from1) where
@@ -32,7 +32,7 @@ module _ (past : tie.Else-not-from1) where
   word = past.before.before
 
   first : from1 word.before.args.slots word.unpack-a.result.left ≡ true
-  first = sym past.before.from1.ensures ∙ not-false _ past.if-not-from1.false
+  first = sym past.before.from1.ensures ∙ past.if-not-from1.false
 
 returns-3 : tie.Need-returns-then-a-eq3
 returns-3 c = let past = c.before.before in of_word (word past) _ (no_status _ _ _ (first past) c.if-a-eq3.true)
@@ -57,7 +57,7 @@ returns-5 c =
     let past = used.before.before in
     of_word (word past) _ (equal_soon _ _ _ (first past) same.if-a.true soon.if-r-ge5-2.false)
 
-returns-6 : tie.Need-returns
+returns-6 : tie.Need-returns-then-r-ge5
 returns-6 c =
     let other = c.before in
     let soon = other.before.before in

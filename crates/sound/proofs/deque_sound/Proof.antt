@@ -14,7 +14,7 @@ returns-2 : tie.Need-returns-then-not-read_sound
 unfolding deque_sound
 returns-2 c =
     let side = c.before.before in
-    rw (le-leb _ _ side.if-r-gt1.false, sym c.before.read_sound.ensures ∙ not-true _ c.if-not-read_sound.true)
+    rw (le-leb _ _ side.if-r-gt1.false, sym c.before.read_sound.ensures ∙ c.if-not-read_sound.true)
 
 returns-3 : tie.Need-returns-then-not-deque_call
 unfolding deque_sound
@@ -23,11 +23,11 @@ returns-3 c =
     let side = reads.before.before in
     rw (
       le-leb _ _ side.if-r-gt1.false,
-      sym reads.before.read_sound.ensures ∙ not-false _ reads.if-not-read_sound.false,
-      sym c.before.deque_call.ensures ∙ not-true _ c.if-not-deque_call.true,
+      sym reads.before.read_sound.ensures ∙ reads.if-not-read_sound.false,
+      sym c.before.deque_call.ensures ∙ c.if-not-deque_call.true,
     )
 
-returns-4 : tie.Need-returns
+returns-4 : tie.Need-returns-then-r-gt1
 unfolding deque_sound
 returns-4 c =
     let call = c.before in
@@ -36,8 +36,8 @@ returns-4 c =
     c.deque_seen.ensures
     ∙ (rw (
       le-leb _ _ side.if-r-gt1.false,
-      sym reads.before.read_sound.ensures ∙ not-false _ reads.if-not-read_sound.false,
-      sym call.before.deque_call.ensures ∙ not-false _ call.if-not-deque_call.false,
+      sym reads.before.read_sound.ensures ∙ reads.if-not-read_sound.false,
+      sym call.before.deque_call.ensures ∙ call.if-not-deque_call.false,
     ))
 
 pub deque_sound_spec : {M : Type 1} → statement M

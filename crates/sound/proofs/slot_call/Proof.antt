@@ -102,7 +102,7 @@ returns-8 c =
       lt-leb _ _ c.if-r-gt17.true,
     )
 
-returns-9 : tie.Need-returns
+returns-9 : tie.Need-returns-then-r-eq11
 returns-9 c =
     let last = c.before in
     let kind = last.before.before in

@@ -14,14 +14,14 @@ returns-2 : tie.Need-returns-then-not-read_sound
 unfolding slot_sound
 returns-2 c =
     let side = c.before.before in
-    rw (le-leb _ _ side.if-r-gt1.false, sym c.before.read_sound.ensures ∙ not-true _ c.if-not-read_sound.true)
+    rw (le-leb _ _ side.if-r-gt1.false, sym c.before.read_sound.ensures ∙ c.if-not-read_sound.true)
 
 returns-3 : tie.Need-returns-then-r-ne0
 unfolding slot_sound
 returns-3 c =
     let reads = c.before.before in
     let side = reads.before.before in
-    rw (le-leb _ _ side.if-r-gt1.false, sym reads.before.read_sound.ensures ∙ not-false _ reads.if-not-read_sound.false, ne_eqb _ _ c.if-r-ne0.true)
+    rw (le-leb _ _ side.if-r-gt1.false, sym reads.before.read_sound.ensures ∙ reads.if-not-read_sound.false, ne_eqb _ _ c.if-r-ne0.true)
 
 returns-4 : tie.Need-returns-then-not-anchor_sound
 unfolding slot_sound
@@ -31,12 +31,12 @@ returns-4 c =
     let side = reads.before.before in
     rw (
       le-leb _ _ side.if-r-gt1.false,
-      sym reads.before.read_sound.ensures ∙ not-false _ reads.if-not-read_sound.false,
+      sym reads.before.read_sound.ensures ∙ reads.if-not-read_sound.false,
       eq-eqb _ _ finishing.if-r-ne0.false,
-      sym c.before.anchor_sound.ensures ∙ not-true _ c.if-not-anchor_sound.true,
+      sym c.before.anchor_sound.ensures ∙ c.if-not-anchor_sound.true,
     )
 
-returns-5 : tie.Need-returns
+returns-5 : tie.Need-returns-then-r-gt1
 unfolding slot_sound
 returns-5 c =
     let seen = c.before in
@@ -46,9 +46,9 @@ returns-5 c =
     c.slot_call.ensures
     ∙ (rw (
       le-leb _ _ side.if-r-gt1.false,
-      sym reads.before.read_sound.ensures ∙ not-false _ reads.if-not-read_sound.false,
+      sym reads.before.read_sound.ensures ∙ reads.if-not-read_sound.false,
       eq-eqb _ _ finishing.if-r-ne0.false,
-      sym seen.before.anchor_sound.ensures ∙ not-false _ seen.if-not-anchor_sound.false,
+      sym seen.before.anchor_sound.ensures ∙ seen.if-not-anchor_sound.false,
     ))
 
 pub slot_sound_spec : {M : Type 1} → statement M

@@ -13,17 +13,17 @@ abbrev fit : tie.Start → Bool
 fit a = lengths_fit (is_pooled a.args.c) a.args.c.slots a.args.t && a.args.enough
 
 returns : tie.Need-returns-then-not-from1
-returns c = let a = c.before.before in by_tasks a.args.c (fit a) (sym c.before.from1.ensures ∙ not-true _ c.if-not-from1.true)
+returns c = let a = c.before.before in by_tasks a.args.c (fit a) (sym c.before.from1.ensures ∙ c.if-not-from1.true)
 
 returns-2 : tie.Need-returns-then-not-anchor_sound
 returns-2 c =
     let a = c.before.before.before.before in
-    by_anchor a.args.c (fit a) (sym c.before.anchor_sound.ensures ∙ not-true _ c.if-not-anchor_sound.true)
+    by_anchor a.args.c (fit a) (sym c.before.anchor_sound.ensures ∙ c.if-not-anchor_sound.true)
 
 returns-3 : tie.Need-returns-then-not-from1-2
 returns-3 c =
     let a = c.before.before.before.before.before.before in
-    by_slots a.args.c (fit a) (sym c.before.from1-2.ensures ∙ not-true _ c.if-not-from1-2.true)
+    by_slots a.args.c (fit a) (sym c.before.from1-2.ensures ∙ c.if-not-from1-2.true)
 
 -- Control is sound but for the word for pooled.
 module _ (slots : tie.Else-not-from1-2) where
@@ -35,9 +35,9 @@ module _ (slots : tie.Else-not-from1-2) where
       let anchor = slots.before.before in
       let tasks = anchor.before.before in
       sound a.args.c (fit a)
-      (sym tasks.before.from1.ensures ∙ not-false _ tasks.if-not-from1.false)
-      (sym anchor.before.anchor_sound.ensures ∙ not-false _ anchor.if-not-anchor_sound.false)
-      (sym slots.before.from1-2.ensures ∙ not-false _ slots.if-not-from1-2.false)
+      (sym tasks.before.from1.ensures ∙ tasks.if-not-from1.false)
+      (sym anchor.before.anchor_sound.ensures ∙ anchor.if-not-anchor_sound.false)
+      (sym slots.before.from1-2.ensures ∙ slots.if-not-from1-2.false)
 
 returns-4 : tie.Need-returns-then-why-ne0
 returns-4 c =
