@@ -25,7 +25,7 @@ returns-3 c =
     let ends = left.before.before in
     of_word ends.before.before _ (right_null _ _ ends.if-a.false (sym c.before.from1-2.ensures ∙ c.if-not-from1-2.true))
 
-returns-4 : tie.Need-returns-then-a
+returns-4 : tie.Need-returns
 returns-4 c =
     let right = c.before in
     let left = right.before.before in

@@ -34,7 +34,7 @@ returns-4 : tie.Need-returns-then-r-ne1
 unfolding deque_call
 returns-4 c = simp (ne_eqb _ _ c.before.before.if-r-eq0.false, ne_eqb _ _ c.if-r-ne1.true)
 
-returns-5 : tie.Need-returns-then-not-from1
+returns-5 : tie.Need-returns
 returns-5 c = let pop = c.before.before in pops _ _ pop.before.before.if-r-eq0.false pop.if-r-ne1.false
 
 pub deque_call_spec : {M : Type 1} → statement M

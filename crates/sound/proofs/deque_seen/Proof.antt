@@ -57,7 +57,7 @@ returns-5 c =
     let past = used.before.before in
     of_word (word past) _ (equal_soon _ _ _ (first past) same.if-a.true soon.if-r-ge5-2.false)
 
-returns-6 : tie.Need-returns-then-r-ge5
+returns-6 : tie.Need-returns
 returns-6 c =
     let other = c.before in
     let soon = other.before.before in

@@ -27,7 +27,7 @@ returns-3 c =
       sym c.before.deque_call.ensures ∙ c.if-not-deque_call.true,
     )
 
-returns-4 : tie.Need-returns-then-r-gt1
+returns-4 : tie.Need-returns
 unfolding deque_sound
 returns-4 c =
     let call = c.before in

@@ -11,7 +11,7 @@ returns-2 c =
     let m = near.before.most.ensures in
     many_slots _ _ _ _ m.0 m.1 near.if-slots-most.false c.if-slots-gt-SLOT_MASK.true
 
-returns-3 : tie.Need-returns-then-slots-most
+returns-3 : tie.Need-returns
 returns-3 c =
     let near = c.before in
     let m = near.before.most.ensures in

@@ -29,7 +29,7 @@ returns-4 c =
     let busy = told.before.if-r-eq0.false in
     sym (passes _ _ _ busy (sym (deque-places _ _ told.before.before.before.if-r-gt10.false _ (some busy)) ∙ sym told.deque_sound.ensures ∙ c.if-deque_sound.true))
 
-returns-5 : tie.Need-returns-then-slot_sound
+returns-5 : tie.Need-returns
 returns-5 c =
     let told = c.before in
     let busy = told.before.if-r-eq0.false in

@@ -12,7 +12,7 @@ returns c = sym (idle-sound _ _ _ (eq-eqb _ _ c.if-r-eq0.true))
 returns-2 : tie.Need-returns-then-r-gt10
 returns-2 c = c.slot_sound.ensures ∙ slot_places _ _ _ c.before.if-r-gt10.true
 
-returns-3 : tie.Need-returns-then-r-eq0
+returns-3 : tie.Need-returns
 returns-3 c =
     let beyond = c.before in
     c.deque_sound.ensures ∙ deque-places _ _ beyond.if-r-gt10.false _ (let busy = beyond.before.before.if-r-eq0.false in omega arith)

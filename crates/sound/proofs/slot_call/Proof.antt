@@ -11,7 +11,7 @@ returns c = simp (eq-eqb _ _ c.before.before.if-r-eq11.true)
 
 returns-2 : tie.Need-returns-then-not-pooled
 unfolding slot_call
-returns-2 c = simp (ne_eqb _ _ c.before.if-r-eq11.false, not-true c.before.before.before.args.pooled c.if-not-pooled.true)
+returns-2 c = simp (ne_eqb _ _ c.before.if-r-eq11.false, c.if-not-pooled.true)
 
 returns-3 : tie.Need-returns-then-r-ne0
 unfolding slot_call
@@ -20,7 +20,7 @@ returns-3 c =
     let pool = place.before.before in
     simp (
       ne_eqb _ _ pool.before.if-r-eq11.false,
-      not-false pool.before.before.before.args.pooled pool.if-not-pooled.false,
+      pool.if-not-pooled.false,
       le-leb _ _
           place.if-r-le14.true,
       ne_eqb _ _ c.if-r-ne0.true,
@@ -34,7 +34,7 @@ returns-4 c =
     let pool = place.before.before in
     simp (
       ne_eqb _ _ pool.before.if-r-eq11.false,
-      not-false pool.before.before.before.args.pooled pool.if-not-pooled.false,
+      pool.if-not-pooled.false,
       le-leb _ _ place.if-r-le14.true,
       eq-eqb _ _ kind.if-r-ne0.false,
       ne_eqb _ _ c.if-r-ne0-2.true,
@@ -49,7 +49,7 @@ returns-5 c =
     let pool = place.before.before in
     simp (
       ne_eqb _ _ pool.before.if-r-eq11.false,
-      not-false pool.before.before.before.args.pooled pool.if-not-pooled.false,
+      pool.if-not-pooled.false,
       le-leb _ _ place.if-r-le14.true,
       eq-eqb _ _ kind.if-r-ne0.false,
       eq-eqb _ _ own.if-r-ne0-2.false,
@@ -67,7 +67,7 @@ returns-6 c =
     let pool = place.before.before in
     simp (
       ne_eqb _ _ pool.before.if-r-eq11.false,
-      not-false pool.before.before.before.args.pooled pool.if-not-pooled.false,
+      pool.if-not-pooled.false,
       le-leb _ _ place.if-r-le14.true,
       eq-eqb _ _ kind.if-r-ne0.false,
       eq-eqb _ _ own.if-r-ne0-2.false,
@@ -82,7 +82,7 @@ returns-7 c =
     let pool = place.before.before in
     simp (
       ne_eqb _ _ pool.before.if-r-eq11.false,
-      not-false pool.before.before.before.args.pooled pool.if-not-pooled.false,
+      pool.if-not-pooled.false,
       lt-leb _ _
           place.if-r-le14.false,
       ne_eqb _ _ c.if-r-ne1.true,
@@ -96,20 +96,20 @@ returns-8 c =
     let pool = place.before.before in
     simp (
       ne_eqb _ _ pool.before.if-r-eq11.false,
-      not-false pool.before.before.before.args.pooled pool.if-not-pooled.false,
+      pool.if-not-pooled.false,
       lt-leb _ _ place.if-r-le14.false,
       eq-eqb _ _ kind.if-r-ne1.false,
       lt-leb _ _ c.if-r-gt17.true,
     )
 
-returns-9 : tie.Need-returns-then-r-eq11
+returns-9 : tie.Need-returns
 returns-9 c =
     let last = c.before in
     let kind = last.before.before in
     let place = kind.before.before in
     let pool = place.before.before in
     c.from1.ensures
-    ∙ gives _ _ _ pool.before.if-r-eq11.false (not-false pool.before.before.before.args.pooled pool.if-not-pooled.false) place.if-r-le14.false
+    ∙ gives _ _ _ pool.before.if-r-eq11.false pool.if-not-pooled.false place.if-r-le14.false
     kind.if-r-ne1.false last.if-r-gt17.false
 
 pub slot_call_spec : {M : Type 1} → statement M

@@ -36,7 +36,7 @@ returns-4 c =
       sym c.before.anchor_sound.ensures ∙ c.if-not-anchor_sound.true,
     )
 
-returns-5 : tie.Need-returns-then-r-gt1
+returns-5 : tie.Need-returns
 unfolding slot_sound
 returns-5 c =
     let seen = c.before in

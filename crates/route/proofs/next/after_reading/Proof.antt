@@ -41,7 +41,7 @@ several : (j : tie.Joined-a) → (let args = j.before.before.args in
     (is_empty args.a ≡ false) × ((eqb args.kind 1 && eqb args.a.left args.a.right) ≡ false))
 several j =
     let args = j.before.before.args in
-    ⊎_elim (λ w. no_label args.kind args.a w.2.left w.3.left) (λ w. apart args.kind args.a w.left) j.if-a.branch
+    elim j.if-a.branch [ then-a w ↦ ? | else-a w ↦ ? ]
 
 returns-3 : tie.Need-returns-then-a-eq0-2
 unfolding reading

@@ -35,7 +35,7 @@ otherwise : tie.Need-returns-in_default
 otherwise c =
     let place = c.before.before.args.place in
     split (eqb place 0) (first place)
-    (λ busy. none place (above 17 place c.before.in_default.rest (omega (arith, eqb-false place 0 busy))))
+    (λ busy. none place (above 17 place c.before.in_default-own.rest (omega (arith, eqb-false place 0 busy))))
 
 pub row_spec : {M : Type 1} → statement M
 unfolding route push_route pop_route
