@@ -50,7 +50,7 @@ module _ (m : tie.After-masked-2) where
   room : m.before.before.before_last-n.result + ones m.masked-2.result ≤ lent.args.slots
   room = omega (arith, total, marks_le lent.args.marks.now lent.args.slots)
 
-returns-2 : tie.Need-returns
+returns-2 : tie.Need-returns-then-slots-lt64
 unfolding taken_slots
 returns-2 c = total c
 

@@ -6,6 +6,7 @@ use borrow.Author.{Rules.rules, Tests.{eq-eqb, ne_eqb, eqb-true}}
 use Rattle.word.specs.declared.Anchor.{Anchor}
 use Rattle.model.specs.{Places.reading, Sides.is_empty}
 use Rattle.route.proofs.next.after_reading.Statement.{statement}
+use Rattle.route.proofs.next.after_reading.Lts.{then-a+else-a-eq0+else-kind-eq1, else-a}
 use Rattle.route.proofs.next.after_reading.Tie as tie
 
 returns : tie.Need-returns-then-a-eq0
@@ -41,7 +42,10 @@ several : (j : tie.Joined-a) → (let args = j.before.before.args in
     (is_empty args.a ≡ false) × ((eqb args.kind 1 && eqb args.a.left args.a.right) ≡ false))
 several j =
     let args = j.before.before.args in
-    elim j.if-a.branch [ then-a w ↦ ? | else-a w ↦ ? ]
+    elim j.if-a.branch [
+      then-a+else-a-eq0+else-kind-eq1 w ↦ no_label args.kind args.a w.if-a-eq0.false w.if-kind-eq1.false
+    | else-a w ↦ apart args.kind args.a w.if-a.false
+    ]
 
 returns-3 : tie.Need-returns-then-a-eq0-2
 unfolding reading
