@@ -27,13 +27,25 @@ def conv(crate,top='.'):
             places[norm(o)]=n
             if fl and fl[0]: fields[norm(fl[0])]=fl[1]
         loops={norm(o):n for (o,n),_ in v['loops']}
+        armkeys={}
+        for arm in v['arms']:
+            if not arm: continue
+            nf,_,parts=arm
+            for nn,of,keys in parts:
+                for k in keys: armkeys[(norm(of),norm(k))]=(nf,nn)
+                if not keys: armkeys[(norm(of),'rest')]=(nf,nn+'.rest')
         for p in paths:
             t=open(p).read(); t0=t
+            done='/tmp/conv-done/'+p.replace('/','%')
+            if os.path.exists(done): continue
+            os.makedirs('/tmp/conv-done',exist_ok=True); open(done,'w').close()
             def tie(m):
                 a,name=m.group(1),m.group(2)
                 if name.startswith('Need-'):
                     k=norm(name[5:])
                     if k in needs: return f'{a}.Need-{needs[k]}'
+                    for w in ('overflow_','nonzero_'):
+                        if k.startswith(w) and k[len(w):] in needs: return f'{a}.Need-{needs[k[len(w):]]}'
                     return m.group(0)
                 for w in ('invariant-','decreases-'):
                     if name.startswith(w) and norm(name[len(w):]) in loops: return f'{a}.{w}{loops[norm(name[len(w):])]}'
@@ -53,6 +65,11 @@ def conv(crate,top='.'):
             for line in t.split('\n'):
                 code,sep,com=line.partition('--') if line.lstrip().startswith('--') else (line,'','')
                 if line.lstrip().startswith('use '): body.append(line); continue
+                def arm(m):
+                    k=(norm(m.group(1)),norm(m.group(2)))
+                    if k in armkeys: return '.'+armkeys[k][0]+'.'+armkeys[k][1]
+                    return m.group(0)
+                code=re.sub(r"(?<=[\w')₀-₉])\.("+W+r")\.("+W+")",arm,code)
                 def fld(m):
                     x=m.group(1)
                     if norm(x) in fields and fields[norm(x)]!=x: return '.'+fields[norm(x)]
@@ -65,8 +82,12 @@ def conv(crate,top='.'):
                     code=re.sub(r"\.("+news+r")\.inv\b",r".\1.invariant",code)
                 body.append(code+sep+com)
             t='\n'.join(body)
-            t=re.sub(r"\bNeeds\.\{?needs\}?","Rules.{rules}" if False else "Rules.rules",t); t=t.replace("borrow.Author.Rules.rules\n","borrow.Author.Rules.{rules}\n")
+            t=re.sub(r"\bNeeds\.\{needs\}","Rules.{rules}",t); t=re.sub(r"\bNeeds\.needs\b","Rules.rules",t); t=re.sub(r"Rules\.\{rules\}(?=[,}])","Rules.rules",t)
             t=re.sub(r'\bsearch \(?needs\b',lambda m:m.group(0).replace('needs','rules'),t)
             t=re.sub(r'\bsearch needs\b','search rules',t)
+            PATH=r"[\w().'-]*\.(?:if|loop)[\w'-]*\.(?:true|false)"
+            ARG=r"(?:_|[\w().'-]+|\([^()]*\))"
+            t=re.sub(r"\(not-(?:true|false) "+ARG+" ("+PATH+r")\)",r"\1",t)
+            t=re.sub(r"\bnot-(?:true|false) "+ARG+" ("+PATH+r")",r"\1",t)
             if t!=t0: open(p,'w').write(t)
 for c in sys.argv[1:]: conv(c)
