@@ -72,6 +72,7 @@ def conv(crate,top='.'):
                 code=re.sub(r"(?<=[\w')₀-₉])\.("+W+r")\.("+W+")",arm,code)
                 def fld(m):
                     x=m.group(1)
+                    if re.search(r"\.(args|new|initial|fn|ensures|requires|ranges|result|now|loop[\w-]*)$",m.string[:m.start()]) or m.string[:m.start()].endswith("turn.loop"): return m.group(0)
                     if norm(x) in fields and fields[norm(x)]!=x: return '.'+fields[norm(x)]
                     return m.group(0)
                 code=re.sub(r"(?<=[\w')₀-₉])\.("+W+")",fld,code)
