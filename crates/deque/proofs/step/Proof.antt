@@ -70,9 +70,9 @@ module _ {M : Type 1} {𝓤 : Ura M} (𝓛 : Logic 𝓤) (mem : Memory → SProp
       are.1.1.1.1.1.1.0.0.1 are.1.1.1.1.1.1.1.0.0.1))
 
 self_meets : {M : Type 1} {𝓤 : Ura M} (𝓛 : Logic 𝓤) → (mem : Memory → SProp 𝓤) (run : Routine → Fun 𝓤) (𝓣 : Program 𝓤 𝓛.H)
-    → Triple 𝓤 (𝓣.C #sound·admission·admit) (Admit 𝓛 mem run) → Triple 𝓤 (𝓣.C #engine·refuse) (Refuse 𝓛 mem run)
-    → Triple 𝓤 (𝓣.C #rows·value·step-by-value) (Move 𝓛 step_admitted)
-    → Meets 𝓛 self.signature (WpFn 𝓤 𝓛.H 𝓣.C 𝓣.Λ code.function) (self.spec 𝓛 mem run)
+    → Triple 𝓤 (𝓣.c-1 #sound·admission·admit) (Admit 𝓛 mem run) → Triple 𝓤 (𝓣.c-1 #engine·refuse) (Refuse 𝓛 mem run)
+    → Triple 𝓤 (𝓣.c-1 #rows·value·step-by-value) (Move 𝓛 step_admitted)
+    → Meets 𝓛 self.signature (WpFn 𝓤 𝓛.H 𝓣.c-1 𝓣.Λ code.function) (self.spec 𝓛 mem run)
 self_meets {𝓤 = 𝓤} 𝓛 mem run 𝓣 known-admit known-refuse known =
     walk_Meets 𝓛 self.ended stayed (
       Goes-ref 𝓛 7 0 tt (plain (λ _. K.the_row)),
@@ -94,14 +94,14 @@ self_meets {𝓤 = 𝓤} 𝓛 mem run 𝓣 known-admit known-refuse known =
       ),
     )
     (self.clauses 𝓛 mem run)
-    (WpFn 𝓤 𝓛.H 𝓣.C 𝓣.Λ code.function) (WpFn-mono 𝓤 𝓛.H 𝓛.laws 𝓣 code.function)
-    (self_walks 𝓛 mem run 𝓣.C 𝓣.Λ (fm_of 𝓤 𝓛.H 𝓛.laws 𝓣) known-admit known-refuse known)
+    (WpFn 𝓤 𝓛.H 𝓣.c-1 𝓣.Λ code.function) (WpFn-mono 𝓤 𝓛.H 𝓛.laws 𝓣 code.function)
+    (self_walks 𝓛 mem run 𝓣.c-1 𝓣.Λ (fm_of 𝓤 𝓛.H 𝓛.laws 𝓣) known-admit known-refuse known)
 
 pub step_spec : {M : Type 1} → stated.statement M
 unfolding code.routine tables_of
 step_spec 𝓤 𝓛 𝓜 𝓡 =
     entered 𝓤 𝓛.H (triple_of 𝓛 self.signature (self.spec 𝓛 𝓜.mem 𝓡.run))
-    (tables 𝓤 𝓛.H 𝓜 𝓡 code.env).C (tables 𝓤 𝓛.H 𝓜 𝓡 code.env).Λ #deque·step code.function (code.unfolded 𝓤 𝓛.H 𝓜 𝓡)
+    (tables 𝓤 𝓛.H 𝓜 𝓡 code.env).c-1 (tables 𝓤 𝓛.H 𝓜 𝓡 code.env).Λ #deque·step code.function (code.unfolded 𝓤 𝓛.H 𝓜 𝓡)
     (self_meets (given_of 𝓛 𝓜) 𝓜.mem 𝓡.run (tables_of 𝓤 𝓛.H 𝓜 (tables 𝓤 𝓛.H 𝓜 𝓡 code.env))
     (cited 𝓤 𝓛.H (Admit 𝓛 𝓜.mem 𝓡.run) 𝓜 𝓡 code.env #sound·admission·admit admit-def.routine code.calls-sound::admission::admit_step
     (admit-thm.met 𝓤 𝓛 𝓜 𝓡))

@@ -165,23 +165,23 @@ module _ {M : Type 1} {𝓤 : Ura M} (𝓛 : Logic 𝓤) (at_mem : Memory → SP
           receive ! 34 refl ((LL.lawful N.the_type N'.the_laws 𝓛).typed m _ is).0 (ap only (LL.tells N.the_type N'.the_laws m (w ∷ []) is)) $
           -- what comes back is stored
           assigns ! (of_opd ! (part ! 34 0 refl refl refl)) (from ! (hop ! (look ! 16 refl) (stop !)))
-          (store_raw ! 10 refl ((LL.lawful K.the_type K'.the_laws 𝓛).typed m.control _ (control_of m is)).0) $
+          (store_raw ! 10 refl ((LL.lawful K.the_type K'.the_laws 𝓛).typed m.control-1 _ (control_of m is)).0) $
           assigns ! (of_opd ! (part ! 34 1 refl refl refl)) (from ! (hop ! (look ! 18 refl) (stop !)))
-          (store_raw ! 6 refl ((LL.lawful T.the_type T'.the_laws 𝓛).typed m.task _ (task_of m is)).0) $
+          (store_raw ! 6 refl ((LL.lawful T.the_type T'.the_laws 𝓛).typed m.task-1 _ (task_of m is)).0) $
           lets ! (of_opd ! (part ! 34 2 refl refl refl))
           (init ! 14 refl ((EL.lawful E.the_type E'.the_laws 𝓛 tt).typed m.outcome _ (outcome_of m is)).0) $
           -- the borrows are closed at that, and the locals are freed
-          owned ! T.the_row (Is T.the_row) (LL.makes T.the_type T'.the_plain 𝓛) m.task _ (task_of m is) $
-          move ! (7 ∷ 0 ∷ 8 ∷ 9 ∷ 10 ∷ []) $ closes ! tt T.the_row m.task (record_value m.task ∷ []) xr.ptr.0 xr.ptr.1 $
-          owned ! K.the_row (Is K.the_row) (LL.makes K.the_type K'.the_plain 𝓛) m.control _ (control_of m is) $
-          move ! (10 ∷ 0 ∷ 11 ∷ 12 ∷ 13 ∷ []) $ closes ! tt K.the_row m.control (control-value m.control ∷ []) xc.ptr.0 xc.ptr.1 $
+          owned ! T.the_row (Is T.the_row) (LL.makes T.the_type T'.the_plain 𝓛) m.task-1 _ (task_of m is) $
+          move ! (7 ∷ 0 ∷ 8 ∷ 9 ∷ 10 ∷ []) $ closes ! tt T.the_row m.task-1 (record_value m.task-1 ∷ []) xr.ptr.0 xr.ptr.1 $
+          owned ! K.the_row (Is K.the_row) (LL.makes K.the_type K'.the_plain 𝓛) m.control-1 _ (control_of m is) $
+          move ! (10 ∷ 0 ∷ 11 ∷ 12 ∷ 13 ∷ []) $ closes ! tt K.the_row m.control-1 (control-value m.control-1 ∷ []) xc.ptr.0 xc.ptr.1 $
           returns ! (look ! 12 refl) $
           frees_all ! 12 (full _ ∷ full _ ∷ full _ ∷ full _ ∷ full _ ∷ full _ ∷ full _ ∷ full _ ∷ full _ ∷ full _ ∷ full _ ∷ full _
           ∷ full _ ∷ full _ ∷ full _ ∷ full _ ∷ full _ ∷ full _ ∷ full _ ∷ full _ ∷ full _ ∷ []) refl $
           move ! (3 ∷ 4 ∷ []) $ feq_i ! (List Val) (pr ∷ []) (pr ∷ []) refl $ fjoin3 ! $
           move ! (1 ∷ 2 ∷ []) $ feq_i ! (List Val) (pc ∷ []) (pc ∷ []) refl $ fjoin3 ! $
           -- [control; record; lftc; lftr; toks1; fin5 to fin1]
-          suffices ! _ (ends_at 𝓛 self.ended stayed (self.clauses 𝓛 at_mem run) bound _ m.outcome (m.control, (m.task, ls))
+          suffices ! _ (ends_at 𝓛 self.ended stayed (self.clauses 𝓛 at_mem run) bound _ m.outcome (m.control-1, (m.task-1, ls))
           (tt, (tt, (eqs.0, (eqs.1, (eqs.2, (eqs.3, (eqs.4, tt)))))))) $
           says ! e $ move ! (3 ∷ 4 ∷ []) $ join ! $ move ! (3 ∷ 0 ∷ []) $ join ! $ frame ! $ nothing ! $ move ! (3 ∷ 0 ∷ []) $ fjoin ! $
           move ! (3 ∷ 0 ∷ []) $ fjoin ! $ move ! (3 ∷ 0 ∷ []) $ fjoin ! $
@@ -221,8 +221,8 @@ module _ {M : Type 1} {𝓤 : Ura M} (𝓛 : Logic 𝓤) (mem : Memory → SProp
       are.1.1.1.1.1.1.0.0.1))
 
 self_meets : {M : Type 1} {𝓤 : Ura M} (𝓛 : Logic 𝓤) → (mem : Memory → SProp 𝓤) (run : Routine → Fun 𝓤) (𝓣 : Program 𝓤 𝓛.H)
-    → Triple 𝓤 (𝓣.C #deque·step-alone) (Move 𝓛 step_lent)
-    → Meets 𝓛 self.signature (WpFn 𝓤 𝓛.H 𝓣.C 𝓣.Λ code.function) (self.spec 𝓛 mem run)
+    → Triple 𝓤 (𝓣.c-1 #deque·step-alone) (Move 𝓛 step_lent)
+    → Meets 𝓛 self.signature (WpFn 𝓤 𝓛.H 𝓣.c-1 𝓣.Λ code.function) (self.spec 𝓛 mem run)
 self_meets {𝓤 = 𝓤} 𝓛 mem run 𝓣 known =
     walk_Meets 𝓛 self.ended stayed (
       Goes-ref 𝓛 7 0 tt (plain (λ _. K.the_row)),
@@ -241,13 +241,13 @@ self_meets {𝓤 = 𝓤} 𝓛 mem run 𝓣 known =
       ),
     )
     (self.clauses 𝓛 mem run)
-    (WpFn 𝓤 𝓛.H 𝓣.C 𝓣.Λ code.function) (WpFn-mono 𝓤 𝓛.H 𝓛.laws 𝓣 code.function)
-    (self_walks 𝓛 mem run 𝓣.C 𝓣.Λ (fm_of 𝓤 𝓛.H 𝓛.laws 𝓣) known)
+    (WpFn 𝓤 𝓛.H 𝓣.c-1 𝓣.Λ code.function) (WpFn-mono 𝓤 𝓛.H 𝓛.laws 𝓣 code.function)
+    (self_walks 𝓛 mem run 𝓣.c-1 𝓣.Λ (fm_of 𝓤 𝓛.H 𝓛.laws 𝓣) known)
 
 pub step_record_spec : {M : Type 1} → stated.statement M
 unfolding code.routine tables_of
 step_record_spec 𝓤 𝓛 𝓜 𝓡 =
     entered 𝓤 𝓛.H (triple_of 𝓛 self.signature (self.spec 𝓛 𝓜.mem 𝓡.run))
-    (tables 𝓤 𝓛.H 𝓜 𝓡 code.env).C (tables 𝓤 𝓛.H 𝓜 𝓡 code.env).Λ #deque·step-record code.function (code.unfolded 𝓤 𝓛.H 𝓜 𝓡)
+    (tables 𝓤 𝓛.H 𝓜 𝓡 code.env).c-1 (tables 𝓤 𝓛.H 𝓜 𝓡 code.env).Λ #deque·step-record code.function (code.unfolded 𝓤 𝓛.H 𝓜 𝓡)
     (self_meets (given_of 𝓛 𝓜) 𝓜.mem 𝓡.run (tables_of 𝓤 𝓛.H 𝓜 (tables 𝓤 𝓛.H 𝓜 𝓡 code.env))
     (cited 𝓤 𝓛.H (Move 𝓛 step_lent) 𝓜 𝓡 code.env #deque·step-alone callee-def.routine code.calls-deque::step_alone (callee-thm.met 𝓤 𝓛 𝓜 𝓡)))

@@ -55,6 +55,6 @@ module _ (c : Control) (rs : List Record) (task : ℕ) (xs : Five (Bor (List ℕ
       let known : task < c.tasks = ltb-true _ _ both.1 in
       omega arith
 
-  pub moved : (m : Stepped) (ls : Five (List ℕ)) → fault ≡ 0 → Leaves step_admitted c r xs m ls → Said m.outcome m.control (set rs task m.task) ls
+  pub moved : (m : Stepped) (ls : Five (List ℕ)) → fault ≡ 0 → Leaves step_admitted c r xs m ls → Said m.outcome m.control-1 (set rs task m.task) ls
   unfolding act act_on rows_fit lengths_fit
   moved m ls h e = ap (back queue task) (e ∙ admitted entry (among queue task) r h)

@@ -224,7 +224,7 @@ module _ {M : Type 1} {𝓤 : Ura M} (𝓛 : Logic 𝓤) (at_mem : Memory → SP
           receive ! 43 refl ((LL.lawful N.the_type N'.the_laws 𝓛).typed m _ is).0 (ap only (LL.tells N.the_type N'.the_laws m (w ∷ []) is)) $
           -- what comes back is stored
           assigns ! (of_opd ! (part ! 43 0 refl refl refl)) (from ! (hop ! (look ! 17 refl) (stop !)))
-          (store_raw ! 11 refl ((LL.lawful K.the_type K'.the_laws 𝓛).typed m.control _ (control_of m is)).0) $
+          (store_raw ! 11 refl ((LL.lawful K.the_type K'.the_laws 𝓛).typed m.control-1 _ (control_of m is)).0) $
           assigns ! (of_opd ! (part ! 43 1 refl refl refl)) (from ! (hop ! (look ! 39 refl) (stop !)))
           (store_raw ! 6 refl ((LL.lawful T.the_type T'.the_laws 𝓛).typed m.task _ (task_of m is)).0) $
           lets ! (of_opd ! (part ! 43 2 refl refl refl))
@@ -235,8 +235,8 @@ module _ {M : Type 1} {𝓤 : Ura M} (𝓛 : Logic 𝓤) (at_mem : Memory → SP
           move ! (7 ∷ 0 ∷ 8 ∷ 9 ∷ 10 ∷ 11 ∷ []) $
           elem_put ! T.the_row full_share rs task m.task (record_value m.task ∷ []) xr.ptr.0 xr.ptr.1 here $
           closes_slice ! tt T.the_row rs (set rs task m.task) same xr.ptr.0 xr.ptr.1 $
-          owned ! K.the_row (Is K.the_row) (LL.makes K.the_type K'.the_plain 𝓛) m.control _ (control_of m is) $
-          move ! (10 ∷ 0 ∷ 11 ∷ 12 ∷ 13 ∷ []) $ closes ! tt K.the_row m.control (control-value m.control ∷ []) xc.ptr.0 xc.ptr.1 $
+          owned ! K.the_row (Is K.the_row) (LL.makes K.the_type K'.the_plain 𝓛) m.control-1 _ (control_of m is) $
+          move ! (10 ∷ 0 ∷ 11 ∷ 12 ∷ 13 ∷ []) $ closes ! tt K.the_row m.control-1 (control-value m.control-1 ∷ []) xc.ptr.0 xc.ptr.1 $
           returns ! (look ! 12 refl) $
           frees_all ! 12 (full _ ∷ full _ ∷ full _ ∷ full _ ∷ full _ ∷ full _ ∷ full _ ∷ full _ ∷ full _ ∷ full _ ∷ full _ ∷ full _
           ∷ full _ ∷ full _ ∷ full _ ∷ full _ ∷ full _ ∷ full _ ∷ full _ ∷ full _ ∷ full _ ∷ full _ ∷ full _ ∷ full _
@@ -245,5 +245,5 @@ module _ {M : Type 1} {𝓤 : Ura M} (𝓛 : Logic 𝓤) (at_mem : Memory → SP
           pure_i ! (mut_slice_at T.the_row (kept xr (set rs task m.task)) (s ∷ [])) (tt, (tt, tt))
           (ap (λ (k : ℕ). slice_val xr.ptr k ∷ []) (sym same), subst (Room T.the_row) (sym same) room) $ fjoin ! $
           move ! (1 ∷ 2 ∷ []) $ feq_i ! (List Val) (pc ∷ []) (pc ∷ []) refl $ fjoin3 ! $
-          by ! (leaving.exits 𝓛 at_mem run κc κr κs qc qr qs xc xr task task-fits xs m.outcome _ m.control
+          by ! (leaving.exits 𝓛 at_mem run κc κr κs qc qr qs xc xr task task-fits xs m.outcome _ m.control-1
           (set rs task m.task) ls (said.moved c rs task xs m ls none e) same eqs (outcome_of m is))))))))))))
