@@ -73,17 +73,16 @@ loop-again c =
     let inv = (test told).before.loop-steps.invariant in
     let less = (test told).loop-steps-test.true in
     let step = (did told).step-o in
-    let lists = step.kept.1.1.1 in
     let runs = sym told.runs.ensures ∙ c.if-not-runs.false in (
       omega arith,
       step.ensures.1 ∙ rw (runs_on _ runs).1 inv.1,
       to_go_more _ _ _ _ _ less step.ensures.0 runs ∙ inv.2,
-      step.kept.1.0 ∙ inv.3,
-      lists.0 ∙ inv.4,
-      lists.1.0 ∙ inv.5,
-      lists.1.1.0 ∙ inv.6,
-      lists.1.1.1.0 ∙ inv.7,
-      lists.1.1.1.1.0 ∙ inv.8,
+      step.auto.records ∙ inv.3,
+      step.auto.lefts ∙ inv.4,
+      step.auto.rights ∙ inv.5,
+      step.auto.labels ∙ inv.6,
+      step.auto.marks ∙ inv.7,
+      step.auto.next ∙ inv.8,
     )
 
 returns-5 : tie.Need-returns invariant-loop decreases-loop
@@ -113,28 +112,28 @@ zc_run_spec =
     (λ c κs. search rules)
     (λ c. let less = (test c.before.before.before).loop-steps-test.true in search rules)
     (λ c κs. search rules)
-    (λ c. let told = c.before.before.before.before in (did told).step-o.auto.1.0 ∙ (test told).before.loop-steps.invariant.3)
-    (λ c. let told = c.before.before.before.before in (did told).step-o.auto.1.1.1.0 ∙ (test told).before.loop-steps.invariant.4)
-    (λ c. let told = c.before.before.before.before in (did told).step-o.auto.1.1.1.1.0 ∙ (test told).before.loop-steps.invariant.5)
-    (λ c. let told = c.before.before.before.before in (did told).step-o.auto.1.1.1.1.1.0 ∙ (test told).before.loop-steps.invariant.6)
-    (λ c. let told = c.before.before.before.before in (did told).step-o.auto.1.1.1.1.1.1.0 ∙ (test told).before.loop-steps.invariant.7)
-    (λ c. let told = c.before.before.before.before in (did told).step-o.auto.1.1.1.1.1.1.1.0 ∙ (test told).before.loop-steps.invariant.8)
+    (λ c. let told = c.before.before.before.before in (did told).step-o.auto.records ∙ (test told).before.loop-steps.invariant.3)
+    (λ c. let told = c.before.before.before.before in (did told).step-o.auto.lefts ∙ (test told).before.loop-steps.invariant.4)
+    (λ c. let told = c.before.before.before.before in (did told).step-o.auto.rights ∙ (test told).before.loop-steps.invariant.5)
+    (λ c. let told = c.before.before.before.before in (did told).step-o.auto.labels ∙ (test told).before.loop-steps.invariant.6)
+    (λ c. let told = c.before.before.before.before in (did told).step-o.auto.marks ∙ (test told).before.loop-steps.invariant.7)
+    (λ c. let told = c.before.before.before.before in (did told).step-o.auto.next ∙ (test told).before.loop-steps.invariant.8)
     returns-2
     (λ c κs. search rules)
-    (λ c. let told = c.before.before.before.before.before in (did told).step-o.auto.1.0 ∙ (test told).before.loop-steps.invariant.3)
-    (λ c. let told = c.before.before.before.before.before in (did told).step-o.auto.1.1.1.0 ∙ (test told).before.loop-steps.invariant.4)
-    (λ c. let told = c.before.before.before.before.before in (did told).step-o.auto.1.1.1.1.0 ∙ (test told).before.loop-steps.invariant.5)
-    (λ c. let told = c.before.before.before.before.before in (did told).step-o.auto.1.1.1.1.1.0 ∙ (test told).before.loop-steps.invariant.6)
-    (λ c. let told = c.before.before.before.before.before in (did told).step-o.auto.1.1.1.1.1.1.0 ∙ (test told).before.loop-steps.invariant.7)
-    (λ c. let told = c.before.before.before.before.before in (did told).step-o.auto.1.1.1.1.1.1.1.0 ∙ (test told).before.loop-steps.invariant.8)
+    (λ c. let told = c.before.before.before.before.before in (did told).step-o.auto.records ∙ (test told).before.loop-steps.invariant.3)
+    (λ c. let told = c.before.before.before.before.before in (did told).step-o.auto.lefts ∙ (test told).before.loop-steps.invariant.4)
+    (λ c. let told = c.before.before.before.before.before in (did told).step-o.auto.rights ∙ (test told).before.loop-steps.invariant.5)
+    (λ c. let told = c.before.before.before.before.before in (did told).step-o.auto.labels ∙ (test told).before.loop-steps.invariant.6)
+    (λ c. let told = c.before.before.before.before.before in (did told).step-o.auto.marks ∙ (test told).before.loop-steps.invariant.7)
+    (λ c. let told = c.before.before.before.before.before in (did told).step-o.auto.next ∙ (test told).before.loop-steps.invariant.8)
     returns-3
     (λ c κs. search rules)
-    (λ c. let told = c.before.before.before.before.before.before in (did told).step-o.auto.1.0 ∙ (test told).before.loop-steps.invariant.3)
-    (λ c. let told = c.before.before.before.before.before.before in (did told).step-o.auto.1.1.1.0 ∙ (test told).before.loop-steps.invariant.4)
-    (λ c. let told = c.before.before.before.before.before.before in (did told).step-o.auto.1.1.1.1.0 ∙ (test told).before.loop-steps.invariant.5)
-    (λ c. let told = c.before.before.before.before.before.before in (did told).step-o.auto.1.1.1.1.1.0 ∙ (test told).before.loop-steps.invariant.6)
-    (λ c. let told = c.before.before.before.before.before.before in (did told).step-o.auto.1.1.1.1.1.1.0 ∙ (test told).before.loop-steps.invariant.7)
-    (λ c. let told = c.before.before.before.before.before.before in (did told).step-o.auto.1.1.1.1.1.1.1.0 ∙ (test told).before.loop-steps.invariant.8)
+    (λ c. let told = c.before.before.before.before.before in (did told).step-o.auto.records ∙ (test told).before.loop-steps.invariant.3)
+    (λ c. let told = c.before.before.before.before.before in (did told).step-o.auto.lefts ∙ (test told).before.loop-steps.invariant.4)
+    (λ c. let told = c.before.before.before.before.before in (did told).step-o.auto.rights ∙ (test told).before.loop-steps.invariant.5)
+    (λ c. let told = c.before.before.before.before.before in (did told).step-o.auto.labels ∙ (test told).before.loop-steps.invariant.6)
+    (λ c. let told = c.before.before.before.before.before in (did told).step-o.auto.marks ∙ (test told).before.loop-steps.invariant.7)
+    (λ c. let told = c.before.before.before.before.before in (did told).step-o.auto.next ∙ (test told).before.loop-steps.invariant.8)
     returns-4
     (λ c. let less = (test c.before).loop-steps-test.true in search rules)
     (λ c. let less = (test c.before).loop-steps-test.true in omega arith)

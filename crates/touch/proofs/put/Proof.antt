@@ -27,7 +27,7 @@ returns-2 c =
     let m = c.before.before.before.before.before.before.before.before.before.args.m in
     rw (sym moves.moves.ensures ∙ c.before.before.before.before.before.before.before.if-moves.true, sym ends.ends.ensures ∙ c.before.before.before.if-ends.false)
     (λ i. record {
-      task = (row.record_row-after.ensures.0 ∙ ap (counting m.task-1) cnt.counted-retries.ensures) i;
+      task = (row.record_row-after.ensures.0 ∙ ap (counting m.task) cnt.counted-retries.ensures) i;
       upper = row.record_row-after.ensures.1 i;
       reply = c.reply-then-moves.ensures i;
     })
