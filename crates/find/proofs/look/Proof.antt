@@ -42,7 +42,7 @@ loop-holds c =
       at = s.before.requires.at;
       ready = record { size = s.before.requires.sieve_size; sifted = λ h. absurd (omega arith) };
       long = refl;
-      notes = begins (note_on a.w.rightward a.wanted.now) a.w a.lefts.now a.rights.now a.labels.now (with 0 a.positions-1.now);
+      notes = begins (note_on a.w.rightward a.wanted.now) a.w a.lefts.now a.rights.now a.labels.now (with 0 a.positions.now);
     }
 
 -- At a slot that was met: where the turn began, and what is noted now.
@@ -60,7 +60,7 @@ module _ (k : tie.After-slice_known-in-loop-n-2-1 invariant-loop decreases-loop)
   turn = test.before.before
 
   abbrev now : List ℕ
-  now = m.meet.last.1.1.1.1.1.0
+  now = m.meet.new.positions
 
   noted-is : (let a = (given turn).args in
       now ≡ note a.w.rightward (get_or a.labels.now turn.loop-n.x 0) (turn.loop-n.n + 1) a.wanted.now turn.loop-n.positions)
@@ -97,7 +97,7 @@ module _ (v : tie.After-leads-next invariant-loop decreases-loop) where
       comes (note_on a.w.rightward a.wanted.now) a.w a.lefts.now a.rights.now a.labels.now (n + 1) (with (n + 1) (now place)) y
 
   on : (r : Led) → v.leads-next.result ≡ r → (let a = (given (turn place)).args in
-      onwards r ≡ over (note_on a.w.rightward a.wanted.now) (with 0 a.positions-1.now)
+      onwards r ≡ over (note_on a.w.rightward a.wanted.now) (with 0 a.positions.now)
       (ahead a.w a.lefts.now a.rights.now a.labels.now))
   on r e =
       let l = turn place in
@@ -120,25 +120,25 @@ module _ (v : tie.After-leads-next invariant-loop decreases-loop) where
           (met place)
 
 returns : tie.Need-returns-in-Last invariant-loop decreases-loop
-returns c = on c.before.before _ c.before.in-Last.is.1
+returns c = on c.before _ c.in-Last.is
 
 returns-2 : tie.Need-returns-in-Broken invariant-loop decreases-loop
-returns-2 c = on c.before.before _ c.before.in-Broken.is.1
+returns-2 c = on c.before _ c.in-Broken.is
 
 loop-again : tie.Need-loop-n-preserved invariant-loop decreases-loop
 loop-again c =
-    let y = c.before.next-1.given in
-    let v = c.before.before.before in
+    let y = c.in-Slot in
+    let v = c.before in
     let k = place v in
     let l = turn k in
     let a = (given l).args in
     let s = (label k).before.before in
     record {
       few = omega (arith, (test k).loop-n-test.true);
-      at = led_to a.w a.lefts.now a.rights.now [] l.loop-n.x y.0.0 (sym y.1 ∙ v.leads-next.ensures);
+      at = led_to a.w a.lefts.now a.rights.now [] l.loop-n.x y.y (sym y.is ∙ v.leads-next.ensures);
       ready = s.before.ready.ensures;
       long = long-now k;
-      notes = on v _ y.1;
+      notes = on v _ y.is;
     }
 
 returns-3 : tie.Need-returns invariant-loop decreases-loop
@@ -156,9 +156,9 @@ meet_requires c κs =
     (s.ready.ensures, omega (arith, (given l).requires.room, l.loop-n.invariant.long))
 
 -- The sieve keeps its size.
-sized : (k : tie.After-slice_known-in-loop-n-2-1 invariant-loop decreases-loop) → length (label k).before.before.before.ready.new.1.1.0 ≡ length (given
+sized : (k : tie.After-slice_known-in-loop-n-2-1 invariant-loop decreases-loop) → length (label k).before.before.before.ready.new.sieve ≡ length (given
     (turn k)).args.sieve.now
-sized k = (label k).before.before.before.ready.ensures.size ∙ sym (given (turn k)).pre.sieve_size
+sized k = (label k).before.before.before.ready.ensures.size ∙ sym (given (turn k)).requires.sieve_size
 
 pub look_spec : {M : Type 1} → statement M
 look_spec =
@@ -173,12 +173,12 @@ look_spec =
     meet_requires
     (λ _ _. tt)
     (λ c. search rules)
-    (λ c. sized (place c.before.before))
-    (λ c. long-now (place c.before.before))
+    (λ c. sized (place c.before))
+    (λ c. long-now (place c.before))
     returns
     (λ c. search rules)
-    (λ c. sized (place c.before.before))
-    (λ c. long-now (place c.before.before))
+    (λ c. sized (place c.before))
+    (λ c. long-now (place c.before))
     returns-2
     (λ c. search rules)
     (λ c. omega arith)

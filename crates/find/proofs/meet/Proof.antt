@@ -13,7 +13,7 @@ returns-2 c =
     let a = s.args in
     let clear = or-false (leb a.k 4) (marked a.sieve.now (a.y % 1024)) (sym c.before.passes.ensures ∙ c.if-passes.false) in
     let sifted = s.requires.0.sifted (leb-false a.k 4 clear.0) in
-    sym (none-noted a.foremost a.y a.k a.wanted.now a.positions-1.now (not_wanted a.wanted.now a.sieve.now a.y sifted clear.1))
+    sym (none-noted a.foremost a.y a.k a.wanted.now a.positions.now (not_wanted a.wanted.now a.sieve.now a.y sifted clear.1))
 
 pub meet_spec : {M : Type 1} → statement M
 meet_spec =

@@ -21,7 +21,7 @@ loop-holds c = (omega arith, refl)
 kept : (l : tie.At-loop-i invariant-loop decreases-loop) → length l.loop-i.positions ≡ length l.before.before.before.args.positions.now
 kept l =
     let a = l.before.before.before.args in
-    ap length l.loop-i.invariant.1 ∙ note_length a.foremost a.y a.k (take l.loop-i.i a.wanted.now) a.positions-1.now
+    ap length l.loop-i.invariant.1 ∙ note_length a.foremost a.y a.k (take l.loop-i.i a.wanted.now) a.positions.now
 
 room : (l : tie.At-loop-i invariant-loop decreases-loop) → length l.before.before.before.args.wanted.now ≤ length l.loop-i.positions
 room l = omega (arith, kept l, l.before.before.before.requires)
@@ -34,12 +34,12 @@ loop-again c =
     let i = l.loop-i.i in
     let wanted = a.wanted.now in
     let put : List ℕ → List ℕ = λ ps. set ps i (pick a.foremost (get_or wanted i 0) a.y a.k (get_or ps i 0)) in
-    let more = note-more a.foremost a.y a.k i wanted a.positions-1.now (omega arith) (omega (arith, l.before.before.before.requires)) in (
+    let more = note-more a.foremost a.y a.k i wanted a.positions.now (omega arith) (omega (arith, l.before.before.before.requires)) in (
       omega arith,
       p.put.ensures
           ∙ ap put l.loop-i.invariant.1
           ∙ sym more
-          ∙ ap (λ (m : ℕ). note a.foremost a.y a.k (take m wanted) a.positions-1.now) (sym (add-one i)),
+          ∙ ap (λ (m : ℕ). note a.foremost a.y a.k (take m wanted) a.positions.now) (sym (add-one i)),
     )
 
 returns : tie.Need-returns invariant-loop decreases-loop
@@ -48,7 +48,7 @@ returns c =
     let a = l.before.before.before.args in
     let e : l.loop-i.i ≡ length a.wanted.now = omega arith in
     l.loop-i.invariant.1
-    ∙ ap (λ (done : List ℕ). note a.foremost a.y a.k done a.positions-1.now)
+    ∙ ap (λ (done : List ℕ). note a.foremost a.y a.k done a.positions.now)
     (ap (λ (m : ℕ). take m a.wanted.now) e ∙ take-length a.wanted.now)
 
 pub note_spec : {M : Type 1} → statement M

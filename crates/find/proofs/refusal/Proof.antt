@@ -1,6 +1,6 @@
 -- Tests made one after the other.
 use mathlib.Core.{Path.{◌≡◌, sym, ◌∙◌}, Bool.true}
-use borrow.Author.Tests.{lt-ltb, le-ltb, not-true, not-false}
+use borrow.Author.Tests.{lt-ltb, le-ltb}
 use Rattle.model.specs.Sound.{control_sound, rows_fit}
 use Rattle.sound.specs.Lengths.{lengths_fit}
 use Rattle.find.specs.Looked.{refusal_before}

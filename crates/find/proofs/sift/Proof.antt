@@ -23,7 +23,7 @@ abbrev turn : tie.After-set_mark invariant-loop decreases-loop → tie.At-loop-i
 turn s = let r = s.before.before in r.before.before.before
 
 set_is : (s : tie.After-set_mark invariant-loop decreases-loop)
-    → s.set_mark.new.0 ≡ with_mark (turn s).loop-i.sieve (get_or (turn s).before.before.before.args.wanted.now (turn s).loop-i.i 0 % 1024) 1
+    → s.set_mark.new.marks ≡ with_mark (turn s).loop-i.sieve (get_or (turn s).before.before.before.args.wanted.now (turn s).loop-i.i 0 % 1024) 1
 set_is s =
     s.set_mark.ensures ∙ ap (λ (v : ℕ). with_mark (turn s).loop-i.sieve (v % 1024) 1) s.before.wide.ensures
 

@@ -47,28 +47,28 @@ module _ (b : tie.After-begin-start) (next : List ℕ) where
 
 returns-2 : tie.Need-returns-in-Empty
 returns-2 c next =
-    let b = c.before.before in
+    let b = c.before in
     let r = tried b next in
     answers r next _
-    (none_found (wanted r next) (few (tables r next) (wanted r next) _ (r.refusal-why.ensures next) b.before.if-why-ne0.false)
-    ∙ found b next _ c.before.in-Empty.is.1)
+    (none_found (wanted r next) (few (tables r next) (wanted r next) _ (r.refusal-why.ensures next) b.if-why-ne0.false)
+    ∙ found b next _ c.in-Empty.is)
 
 returns-3 : tie.Need-returns-in-Unsound
-returns-3 c next = let b = c.before.before in answers (tried b next) next _ (found b next _ c.before.in-Unsound.is.1)
+returns-3 c next = let b = c.before in answers (tried b next) next _ (found b next _ c.in-Unsound.is)
 
 returns-4 : tie.Need-returns-in-At
 returns-4 c next =
     let s = c.before in
-    let k = s.before.before.before.before in
-    let b = k.before.before in
-    answers (tried b next) next _ (s.search-r.ensures ∙ found b next _ k.in-At.is.1)
+    let k = s.before.before in
+    let b = k.before in
+    answers (tried b next) next _ (s.search-r.ensures ∙ found b next _ k.in-At.is)
 
 search_requires : tie.Need-search-r-requires
 search_requires c κs =
-    let k = c.before.before.before in
+    let k = c.before in
     let b = k.before in
     let r = tried b [] in
-    let at = begins-at r.before.control_of-c.result k.in-At.is.0.0 (sym k.in-At.is.1 ∙ b.begin-start.ensures) in
+    let at = begins-at r.before.control_of-c.result k.in-At.w (sym k.in-At.is ∙ b.begin-start.ensures) in
     (few (tables r []) (wanted r []) _ (r.refusal-why.ensures []) b.before.if-why-ne0.false, (refl, at.1))
 
 pub zc_find_spec : {M : Type 1} → statement M
