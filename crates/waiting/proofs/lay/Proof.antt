@@ -6,7 +6,7 @@ use lib.ListN.{get_or, length, length-set, set}
 use borrow.Author.Rules.{rules}
 use Rattle.word.specs.Link.{link_of}
 use Rattle.walk.specs.declared.Way.{Way}
-use Rattle.waiting.specs.{Waiting.{slots_of, labels_of}, Laid.{Inside, trail, place, laid}}
+use Rattle.waiting.specs.{Waiting.{slots_of, labels_of}, Laid.{Inside, trail, laid}}
 use Rattle.waiting.proofs.{Laid.{begins, more, ends, inside-next, place-low}, lay.Statement.statement}
 use Rattle.waiting.proofs.lay.Tie as tie
 
@@ -53,10 +53,10 @@ module _ (p : tie.After-place-k invariant-loop decreases-loop) where
       (place-low (given turn).args.w.rightward (given turn).args.n turn.loop-i.i p.before.loop-i-test.true)
 
   in_slots : p.place-k.result < length turn.loop-i.slots
-  in_slots = omega (arith, low, turn.loop-i.invariant.long, (given turn).pre.room.0)
+  in_slots = omega (arith, low, turn.loop-i.invariant.long, (given turn).requires.room.0)
 
   in_copies : p.place-k.result < length turn.loop-i.copies
-  in_copies = omega (arith, low, turn.loop-i.invariant.broad, (given turn).pre.room.1)
+  in_copies = omega (arith, low, turn.loop-i.invariant.broad, (given turn).requires.room.1)
 
   -- The slot has a row in every table, and what follows keeps to the slots.
   slot_in : (turn.loop-i.x ≤ (given turn).args.w.slots)
@@ -65,10 +65,10 @@ module _ (p : tie.After-place-k invariant-loop decreases-loop) where
   slot_in = inside-next _ _ _ _ _ _ p.before.loop-i-test.true turn.loop-i.invariant.inside
 
   in_labels : turn.loop-i.x < length (given turn).args.labels.now
-  in_labels = omega (arith, slot_in.0, (given turn).pre.label_rows)
+  in_labels = omega (arith, slot_in.0, (given turn).requires.label_rows)
 
   link_in : turn.loop-i.x < length (given turn).args.links.now
-  link_in = omega (arith, slot_in.0, (given turn).pre.link_rows)
+  link_in = omega (arith, slot_in.0, (given turn).requires.link_rows)
 
 loop-again : tie.Need-loop-i-preserved invariant-loop decreases-loop
 loop-again c =

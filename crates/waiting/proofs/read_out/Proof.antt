@@ -52,29 +52,29 @@ module _ (b : tie.After-begin-start) (next : List ℕ) where
 
 returns-2 : tie.Need-returns-in-Empty
 returns-2 c next =
-    let b = c.before.before in
+    let b = c.before in
     let r = asked b next in
-    nothing (slots r) (copies r) ∙ begun b next _ c.before.in-Empty.is.1
+    nothing (slots r) (copies r) ∙ begun b next _ c.in-Empty.is
 
 returns-3 : tie.Need-returns-in-Unsound
 returns-3 c next =
-    let u = c.before.before in
-    let b = u.before.before in
-    ap (told (asked b next)) c.refused-in-Unsound.ensures ∙ begun b next _ u.in-Unsound.is.1
+    let u = c.before in
+    let b = u.before in
+    ap (told (asked b next)) c.refused-in-Unsound.ensures ∙ begun b next _ u.in-Unsound.is
 
 returns-4 : tie.Need-returns-in-At
 returns-4 c next =
     let o = c.before.before.before.before in
-    let k = o.before.before.before.before.before in
-    let b = k.before.before in
-    o.write_out.ensures ∙ begun b next _ k.in-At.is.1
+    let k = o.before.before.before in
+    let b = k.before in
+    o.write_out.ensures ∙ begun b next _ k.in-At.is
 
 write_out_requires : tie.Need-write_out-requires
 write_out_requires c κs =
-    let k = c.before.before.before.before in
+    let k = c.before.before in
     let b = k.before in
     let r = asked b [] in
-    ready (q b []) (slots r) (copies r) _ (tried r []) b.before.if-why-ne0.false k.in-At.is.0.0 (sym k.in-At.is.1 ∙ b.begin-start.ensures)
+    ready (q b []) (slots r) (copies r) _ (tried r []) b.before.if-why-ne0.false k.in-At.w (sym k.in-At.is ∙ b.begin-start.ensures)
 
 pub read_out_spec : {M : Type 1} → statement M
 read_out_spec =

@@ -1,6 +1,5 @@
 -- Tests made one after the other.
 use mathlib.Core.{Path.{◌≡◌, sym, ◌∙◌}, Bool.true}
-use borrow.Author.Tests.{not-true, not-false}
 use Rattle.model.specs.Sound.{control_sound}
 use Rattle.waiting.proofs.refusal.Statement.{statement}
 use Rattle.waiting.proofs.refusal.Tie as tie

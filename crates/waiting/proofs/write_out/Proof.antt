@@ -28,31 +28,31 @@ module _ (k : tie.After-count-walked) where
 
 returns : tie.Need-returns-in_default
 returns c =
-    let t = c.before.before in
+    let t = c.before in
     let k = t.before in
     let a = (start k).args in
     ap (told k) c.refused.ensures
-    ∙ lost a.slots-1.now a.copies-1.now a.w (ahead-is k) (sym t.in_default.is.1 ∙ k.count-walked.ensures a.labels.now)
+    ∙ lost a.slots.now a.copies.now a.w (ahead-is k) (sym t.in_default.is ∙ k.count-walked.ensures a.labels.now)
 
 returns-2 : tie.Need-returns-then-slots-n
 returns-2 c =
     let e = c.before in
-    let n = e.before.before.before in
-    let k = n.before.before in
+    let n = e.before in
+    let k = n.before in
     let a = (start k).args in
     ap (told k) c.refused-then-slots-n.ensures
-    ∙ short a.slots-1.now a.copies-1.now (walk k) n.in-Labels.is.0.0 (all k _ n.in-Labels.is.1) e.if-slots-n.true
+    ∙ short a.slots.now a.copies.now (walk k) n.in-Labels.n (all k _ n.in-Labels.is) e.if-slots-n.true
 
 -- Where there is room.
 module _ (e : tie.Else-slots-n) where
-  abbrev labelled : tie.In-Labels-2
-  labelled = e.before.before
+  abbrev labelled : tie.In-Labels
+  labelled = e.before
 
   abbrev made : tie.After-count-walked
-  made = labelled.before.before
+  made = labelled.before
 
-  counts : Labels labelled.before.in-Labels.is.0.0 ≡ counted (walk made)
-  counts = all made _ labelled.before.in-Labels.is.1
+  counts : Labels labelled.in-Labels.n ≡ counted (walk made)
+  counts = all made _ labelled.in-Labels.is
 
 lay_requires : tie.Need-lay-requires
 lay_requires c κs =
@@ -60,7 +60,7 @@ lay_requires c κs =
     let e = b.before in
     let s = start (made e) in
     may_lay s.args.w s.args.lefts.now s.args.rights.now s.args.labels.now _ _ _ (counts e) e.if-slots-n.false true b.if-w.true
-    s.pre s.pre.right_rows
+    s.requires s.requires.right_rows
 
 lay_requires_2 : tie.Need-lay-requires-else-w
 lay_requires_2 c κs =
@@ -68,7 +68,7 @@ lay_requires_2 c κs =
     let e = b.before in
     let s = start (made e) in
     may_lay s.args.w s.args.lefts.now s.args.rights.now s.args.labels.now _ _ _ (counts e) e.if-slots-n.false false b.if-w.false
-    s.pre s.pre.left_rows
+    s.requires s.requires.left_rows
 
 returns-3 : tie.Need-returns-then-w
 returns-3 c =

@@ -13,7 +13,7 @@ returns c next =
     let s = r.before.before.before.before in
     let a = s.before.before.before.before.args in
     w.read_out.ensures next
-    ∙ ap (λ (q : Tables). read_out q a.slots-1.now a.copies-1.now)
+    ∙ ap (λ (q : Tables). read_out q a.slots.now a.copies.now)
     (ap (λ (d : Control). tables_of d a.lefts.now a.rights.now a.labels.now a.marks.now next) r.control_of-c.ensures)
 
 pub zc_waiting_spec : {M : Type 1} → statement M
