@@ -12,7 +12,7 @@ returns c =
     let known = read.before.before.before in
     let lent = known.before.before.before.before in
     let a = lent.before.before.before.before.args in
-    returning-refused a.control.now a.records-1.now a.lefts-1.now a.rights-1.now a.labels-1.now a.marks-1.now a.next-1.now
+    returning-refused a.control.now a.records.now a.lefts.now a.rights.now a.labels.now a.marks.now a.next.now
     a.controls8.now a.records8.now a.lefts8.now a.rights8.now a.labels8.now a.marks8.now a.next8.now a.shelf
     _ (told.control_of-c.ensures ∙ read.control_at-row.ensures) _ asked.return_refusal-why.ensures c.if-why-ne0.true
 
@@ -37,7 +37,7 @@ returns-2 c =
     let lent = known.before.before.before.before in
     let a = lent.before.before.before.before.args in
     let put = tables.take_tables.ensures in
-    returning-lent a.control.now a.records-1.now a.lefts-1.now a.rights-1.now a.labels-1.now a.marks-1.now a.next-1.now
+    returning-lent a.control.now a.records.now a.lefts.now a.rights.now a.labels.now a.marks.now a.next.now
     a.controls8.now a.records8.now a.lefts8.now a.rights8.now a.labels8.now a.marks8.now a.next8.now a.shelf
     _ _ _ _ _ _ _ _ told.control_of-c.ensures read.control_at-row.ensures _ asked.return_refusal-why.ensures passed.if-why-ne0.false
     rows.take_rows.ensures put.0 put.1.0 put.1.1.0 put.1.1.1.0 put.1.1.1.1

@@ -11,7 +11,7 @@ returns c =
     let lent = known.before.before.before.before in
     let a = lent.before.before.before.before.args in
     saving-refused a.control.now a.records.now a.lefts.now a.rights.now a.labels.now a.marks.now a.next.now
-    a.controls8-1.now a.records8-1.now a.lefts8-1.now a.rights8-1.now a.labels8-1.now a.marks8-1.now a.next8-1.now a.shelf
+    a.controls8.now a.records8.now a.lefts8.now a.rights8.now a.labels8.now a.marks8.now a.next8.now a.shelf
     _ told.control_of-c.ensures _ asked.save_refusal-why.ensures c.if-why-ne0.true
 
 low : tie.Need-put_tables-requires
@@ -37,7 +37,7 @@ returns-2 c =
     let a = lent.before.before.before.before.args in
     let put = tables.put_tables.ensures in
     saving-lent a.control.now a.records.now a.lefts.now a.rights.now a.labels.now a.marks.now a.next.now
-    a.controls8-1.now a.records8-1.now a.lefts8-1.now a.rights8-1.now a.labels8-1.now a.marks8-1.now a.next8-1.now a.shelf
+    a.controls8.now a.records8.now a.lefts8.now a.rights8.now a.labels8.now a.marks8.now a.next8.now a.shelf
     _ _ _ _ _ _ _ _ told.control_of-c.ensures _ asked.save_refusal-why.ensures passed.if-why-ne0.false
     control.put_control.ensures rows.put_rows.ensures put.0 put.1.0 put.1.1.0 put.1.1.1.0 put.1.1.1.1
 

@@ -18,7 +18,7 @@ second c κs =
     let held = c.before.before.before in
     let given = start held.before in
     let a = given.args in
-    (own_long a.from.now a.start _ _ a.k given.pre.0 held.copy_words-2.ensures, given.pre.1)
+    (own_long a.from.now a.start _ _ a.k given.requires.0 held.copy_words-2.ensures, given.requires.1)
 
 returns-2 : tie.Need-returns
 returns-2 c =
@@ -27,8 +27,8 @@ returns-2 c =
     let given = start held.before in
     let a = given.args in
     last.copy_words-3.ensures
-    ∙ ap (λ (l : List ℕ). pasted l 0 a.to-1.now a.at a.k) held.copy_words-2.ensures
-    ∙ pasted-twice a.from.now a.start _ a.to-1.now a.at a.k given.pre.0
+    ∙ ap (λ (l : List ℕ). pasted l 0 a.to.now a.at a.k) held.copy_words-2.ensures
+    ∙ pasted-twice a.from.now a.start _ a.to.now a.at a.k given.requires.0
 
 pub move_words_spec : {M : Type 1} → statement M
 move_words_spec =

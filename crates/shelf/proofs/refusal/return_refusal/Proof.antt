@@ -1,6 +1,6 @@
 -- Tests made one after the other.
 use mathlib.Core.Path.{sym, ◌∙◌}
-use borrow.Author.Tests.{eq-eqb, le-leb, lt-leb, ne_eqb, not-true, not-false}
+use borrow.Author.Tests.{eq-eqb, le-leb, lt-leb, ne_eqb}
 use Rattle.shelf.specs.Lengths.{return_number}
 use Rattle.shelf.proofs.refusal.return_refusal.Statement.{statement}
 use Rattle.shelf.proofs.refusal.return_refusal.Tie as tie

@@ -1,6 +1,6 @@
 -- Tests made one after the other.
 use mathlib.Core.{Path.{◌≡◌, sym, ◌∙◌}, Bool.{true, false}}
-use borrow.Author.Tests.{lt-leb, le-leb, not-true, not-false}
+use borrow.Author.Tests.{lt-leb, le-leb}
 use Rattle.model.specs.Sound.{control_sound}
 use Rattle.shelf.specs.Lengths.{save_number}
 use Rattle.shelf.proofs.refusal.save_refusal.Statement.{statement}

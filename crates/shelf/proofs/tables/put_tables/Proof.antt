@@ -26,7 +26,7 @@ returns c =
           labels.put_labels.ensures,
           (
             marks.put_words-3.ensures,
-            last.put_words-4.ensures ∙ ap (λ (k : ℕ). put_on a.shelf k a.next.now a.next8-1.now) stacked.next_rows-stacked.ensures,
+            last.put_words-4.ensures ∙ ap (λ (k : ℕ). put_on a.shelf k a.next.now a.next8.now) stacked.next_rows-stacked.ensures,
           ),
         ),
       ),

@@ -26,7 +26,7 @@ returns c =
           labels.take_labels.ensures,
           (
             marks.take_words-3.ensures,
-            last.take_words-4.ensures ∙ ap (λ (k : ℕ). put_back a.shelf k a.next8.now a.next-1.now) stacked.next_rows-stacked.ensures,
+            last.take_words-4.ensures ∙ ap (λ (k : ℕ). put_back a.shelf k a.next8.now a.next.now) stacked.next_rows-stacked.ensures,
           ),
         ),
       ),
