@@ -1,7 +1,7 @@
 use mathlib.Core.{Bool.{Bool, true, false, ◌&&◌}, List.{List, []}, Path.{◌≡◌, refl, sym, ap, ◌∙◌}}
 use Prim.Native.Nat.{ℕ}
 use lib.ListN.{length}
-use borrow.Author.{Tests.{not-true, not-false}, Rules.rules}
+use borrow.Author.{Rules.rules}
 use Rattle.model.specs.{Tables.{Tables, tables_of}, Sound.{control_sound, rows_fit}}
 use Rattle.sound.specs.Lengths.{lengths_fit}
 use Rattle.sheet.specs.{Refusals.unfit, Squares.{byte_row, crossed}, Search.in_rows}
@@ -45,10 +45,10 @@ returns c next =
 -- What the walk noted.
 module _ (walked : tie.After-extents) where
   abbrev low : List ℕ
-  low = walked.extents.new.1.1.1.1.1.0
+  low = walked.extents.new.low
 
   abbrev high : List ℕ
-  high = walked.extents.last.1.1.1.1.1.1.0
+  high = walked.extents.new.high
 
 extents_requires : tie.Need-extents-requires
 extents_requires c κs = let go = c.before.before in slots_few (start go.before).args.c (fine go []).control

@@ -2,7 +2,7 @@ use mathlib.Core.{Bool.{Bool, false, ◌&&◌}, List.{List, []}, Path.{◌≡◌
 use Prim.Native.Nat.{ℕ, ◌≤◌}
 use native.Mathlib.Omega.{arith}
 use lib.{Dec.leb, ListN.{length, drop}}
-use borrow.Author.{Tests.{leb-true, not-true, not-false}, Rules.rules}
+use borrow.Author.{Tests.{leb-true}, Rules.rules}
 use Rattle.model.{specs.{Tables.{Tables, tables_of}, Sound.{control_sound, rows_fit}}, proofs.Tests.Truth.and-true}
 use Rattle.sound.specs.Lengths.{lengths_fit}
 use Rattle.sheet.specs.{Refusals.unfit, Squares.{bit_row, crossed}, Search.in_rows}
@@ -51,10 +51,10 @@ returns c next =
 -- What the walk noted.
 module _ (walked : tie.After-extents) where
   abbrev low : List ℕ
-  low = walked.extents.new.1.1.1.1.1.0
+  low = walked.extents.new.low
 
   abbrev high : List ℕ
-  high = walked.extents.last.1.1.1.1.1.1.0
+  high = walked.extents.new.high
 
 extents_requires : tie.Need-extents-requires
 extents_requires c κs = let go = c.before.before in slots_few (start go.before).args.c (fine go []).control
@@ -101,7 +101,7 @@ returns-3 c next =
     let x = walked.extents.ensures in
     let f = closed.closure.ensures in
     let told = c.first_broken.ensures in
-    printed-told (queue why next) (given_sheet why) (words why) c.first_broken.result closed.closure.new.0
+    printed-told (queue why next) (given_sheet why) (words why) c.first_broken.result closed.closure.new.words
     (told ∙ ap (λ (m : List ℕ). in_rows (crossed bit_row m (low walked) (high walked)) n 1 n) f
     ∙ judge-told (queue why next) (given_sheet why) (enough why) (fine go next) bit_row bits bits_show (drop 32 (words why))
     _ (told-made walked.extents.result (low walked) (high walked) sound.if-not-extents.false x))

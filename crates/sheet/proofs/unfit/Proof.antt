@@ -1,5 +1,5 @@
 use mathlib.Core.Path.{sym, ◌∙◌}
-use borrow.Author.{Tests.{not-true, not-false}, Rules.rules}
+use borrow.Author.{Rules.rules}
 use Rattle.sheet.proofs.{Judged.{unfit_34, unfit_46, unfit_12, unfit_0}, unfit.Statement.statement}
 use Rattle.sheet.proofs.unfit.Tie as tie
 

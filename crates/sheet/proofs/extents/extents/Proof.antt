@@ -23,25 +23,25 @@ module _ (b : tie.After-begin-start) where
 gather_requires : tie.Need-gather-requires
 unfolding way_of
 gather_requires c κs =
-    let k = c.before.before.before.before in
+    let k = c.before.before in
     let b = k.before in
-    let at = begins-at (start b).args.c k.in-At.is.0.0 (sym k.in-At.is.1 ∙ b.begin-start.ensures) in
+    let at = begins-at (start b).args.c k.in-At.w (sym k.in-At.is ∙ b.begin-start.ensures) in
     (rw at.0 (start b).requires, at.1)
 
 returns : tie.Need-returns-in-Empty
 unfolding extents
-returns c = begun c.before.before _ c.before.in-Empty.is.1
+returns c = begun c.before _ c.in-Empty.is
 
 returns-2 : tie.Need-returns-in-Unsound
 unfolding extents
-returns-2 c = begun c.before.before _ c.before.in-Unsound.is.1
+returns-2 c = begun c.before _ c.in-Unsound.is
 
 returns-3 : tie.Need-returns-in-At
 unfolding extents
 returns-3 c =
     let g = c.before.before.before.before in
-    let k = g.before.before.before.before.before in
-    g.gather.ensures ∙ begun k.before.before _ k.in-At.is.1
+    let k = g.before.before.before in
+    g.gather.ensures ∙ begun k.before _ k.in-At.is
 
 pub extents_spec : {M : Type 1} → statement M
 extents_spec =

@@ -47,8 +47,8 @@ loop-holds c =
       highs = refl;
       notes =
           (λ i. comes f a.w a.lefts.now a.rights.now a.labels.now (none a.w.slots i)
-          (with (c.first_at-at.ensures i) a.low-1.now a.high-1.now) a.w.first)
-          ∙ begins f a.w a.lefts.now a.rights.now a.labels.now (with (first_at a.w.rightward) a.low-1.now a.high-1.now);
+          (with (c.first_at-at.ensures i) a.low.now a.high.now) a.w.first)
+          ∙ begins f a.w a.lefts.now a.rights.now a.labels.now (with (first_at a.w.rightward) a.low.now a.high.now);
     }
 
 -- What the call was given.
@@ -66,17 +66,17 @@ module _ (raised : tie.After-raise invariant-loop decreases-loop) where
   abbrev turn : tie.At-loop-left invariant-loop decreases-loop
   turn = place.before.before.before
 
-  some : 0 < turn.loop-left.false
+  some : 0 < turn.loop-left.left
   some = place.before.before.loop-left-test.true
 
   abbrev met : ℕ
-  met = (given turn).args.w.slots - turn.loop-left.false
+  met = (given turn).args.w.slots - turn.loop-left.left
 
   near : met < (given turn).args.w.slots
   near = omega (arith, some, turn.loop-left.invariant.few)
 
   here : (let a = (given turn).args in
-      ◌≡◌ {A = Noting} (with (next_at a.w.rightward turn.loop-left.at) lowered.lower.last.0 raised.raise.last.0)
+      ◌≡◌ {A = Noting} (with (next_at a.w.rightward turn.loop-left.at) lowered.lower.new.t raised.raise.new.t)
       (noted a.w.rightward a.listed.now (with turn.loop-left.at turn.loop-left.low turn.loop-left.high)
       (record { slot = turn.loop-left.x; label = get_or a.labels.now turn.loop-left.x 0 })))
   here =
@@ -91,16 +91,16 @@ module _ (v : tie.After-leads-next invariant-loop decreases-loop) where
   raise = v.before.before.before
 
   abbrev onwards : Led → Made Noting
-  onwards Last = made (with (next_at (given (turn raise)).args.w.rightward (turn raise).loop-left.at) (lowered raise).lower.last.0 raise.raise.last.0)
+  onwards Last = made (with (next_at (given (turn raise)).args.w.rightward (turn raise).loop-left.at) (lowered raise).lower.new.t raise.raise.new.t)
   onwards Broken = lost
   onwards (Slot y) =
       let l = turn raise in
       let a = (given l).args in
       comes (noted a.w.rightward a.listed.now) a.w a.lefts.now a.rights.now a.labels.now (met raise + 1)
-      (with (next_at a.w.rightward l.loop-left.at) (lowered raise).lower.last.0 raise.raise.last.0) y
+      (with (next_at a.w.rightward l.loop-left.at) (lowered raise).lower.new.t raise.raise.new.t) y
 
   on : (r : Led) → v.leads-next.result ≡ r → (let a = (given (turn raise)).args in
-      onwards r ≡ over (noted a.w.rightward a.listed.now) (with (first_at a.w.rightward) a.low-1.now a.high-1.now)
+      onwards r ≡ over (noted a.w.rightward a.listed.now) (with (first_at a.w.rightward) a.low.now a.high.now)
       (ahead a.w a.lefts.now a.rights.now a.labels.now))
   on r e =
       let l = turn raise in
@@ -122,41 +122,41 @@ module _ (v : tie.After-leads-next invariant-loop decreases-loop) where
           (here raise)
 
 returns : tie.Need-returns-in-Last invariant-loop decreases-loop
-returns c = ap ended (on c.before.before _ c.before.in-Last.is.1)
+returns c = ap ended (on c.before _ c.in-Last.is)
 
 returns-2 : tie.Need-returns-in-Broken invariant-loop decreases-loop
-returns-2 c = ap ended (on c.before.before _ c.before.in-Broken.is.1)
+returns-2 c = ap ended (on c.before _ c.in-Broken.is)
 
 next_at_requires : tie.Need-next_at-at-requires invariant-loop decreases-loop
 next_at_requires c κs =
-    let r = raise c.before.before.before in
+    let r = raise c.before in
     let l = turn r in
     let up = (given l).args.w.rightward in
-    let h : met r < 1023 = omega (arith, near r, (given l).pre.0) in (
+    let h : met r < 1023 = omega (arith, near r, (given l).requires.0) in (
       subst (λ (n : ℕ). 1 ≤ n) (sym l.loop-left.invariant.place) (position-low up (met r) h),
       subst (λ (n : ℕ). n ≤ 1023) (sym l.loop-left.invariant.place) (position-high up (met r) h),
     )
 
 loop-again : tie.Need-loop-left-preserved invariant-loop decreases-loop
 loop-again c =
-    let k = c.before.before.before in
+    let k = c.before in
     let v = k.before in
-    let y = k.in-Slot.is.0.0 in
+    let y = k.in-Slot.y in
     let r = raise v in
     let l = turn r in
     let a = (given l).args in
     let up = a.w.rightward in
-    let z : met r + 1 ≡ a.w.slots - (l.loop-left.false - 1) = omega (arith, some r, l.loop-left.invariant.few) in
+    let z : met r + 1 ≡ a.w.slots - (l.loop-left.left - 1) = omega (arith, some r, l.loop-left.invariant.few) in
     record {
       few = omega (arith, l.loop-left.invariant.few);
-      on = led_to a.w a.lefts.now a.rights.now [] l.loop-left.x y (sym k.in-Slot.is.1 ∙ v.leads-next.ensures);
+      on = led_to a.w a.lefts.now a.rights.now [] l.loop-left.x y (sym k.in-Slot.is ∙ v.leads-next.ensures);
       place = c.next_at-at.ensures ∙ ap (next_at up) l.loop-left.invariant.place ∙ position-on up (met r) ∙ ap (position up) z;
       lows = search rules;
       highs = search rules;
       notes =
           (λ i. comes (noted up a.listed.now) a.w a.lefts.now a.rights.now a.labels.now (sym z i)
-          (with (c.next_at-at.ensures i) (lowered r).lower.last.0 r.raise.last.0) y)
-          ∙ on v _ k.in-Slot.is.1;
+          (with (c.next_at-at.ensures i) (lowered r).lower.new.t r.raise.new.t) y)
+          ∙ on v _ k.in-Slot.is;
     }
 
 returns-3 : tie.Need-returns invariant-loop decreases-loop
@@ -164,7 +164,7 @@ returns-3 c =
     let l = c.before in
     let a = (given l).args in
     ap ended
-    (sym (full (noted a.w.rightward a.listed.now) a.w a.lefts.now a.rights.now a.labels.now (a.w.slots - l.loop-left.false) l.loop-left.x
+    (sym (full (noted a.w.rightward a.listed.now) a.w a.lefts.now a.rights.now a.labels.now (a.w.slots - l.loop-left.left) l.loop-left.x
     (with l.loop-left.at l.loop-left.low l.loop-left.high) (omega (arith, c.loop-left-test.false)))
     ∙ l.loop-left.invariant.notes)
 

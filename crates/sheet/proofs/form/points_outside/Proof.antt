@@ -1,5 +1,5 @@
 use Prim.Native.Nat.{◌≤◌, ◌-◌}
-use mathlib.Core.Path.{◌≡◌, refl, ap, ◌∙◌}
+use mathlib.Core.{Bool.not, Path.{◌≡◌, refl, ap, ◌∙◌}}
 use lib.ListN.{length, drop}
 use borrow.Author.Rules.{rules}
 use Rattle.model.specs.Sound.{from1}
@@ -26,7 +26,7 @@ returns c =
       ← first.from1-first.ensures ∙ ap (from1 _) first.before.before-in-loop-i.ensures,
       ← c.before.from1-second.ensures
           ∙ ap (from1 _) c.before.before.after.ensures,
-    ) c.if-not-first-second.true)
+    ) (ap not c.if-not-first-second.true))
 
 loop-again : tie.Need-loop-i-preserved invariant-loop decreases-loop
 loop-again c =
@@ -38,7 +38,7 @@ loop-again c =
             ← first.from1-first.ensures ∙ ap (from1 _) first.before.before-in-loop-i.ensures,
             ← c.before.from1-second.ensures
                 ∙ ap (from1 _) c.before.before.after.ensures,
-          ) c.if-not-first-second.false),
+          ) (ap not c.if-not-first-second.false)),
     )
 
 returns-2 : tie.Need-returns invariant-loop decreases-loop

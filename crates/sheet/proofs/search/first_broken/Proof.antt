@@ -30,7 +30,7 @@ loop-holds : tie.Need-loop-b-init invariant-loop decreases-loop invariant-pairs 
 loop-holds c = (
   search rules,
   (let given = c.before.before.args in let n = given.n in let a = c.before.pairs.a in
-      let p = crossed byte_row given.square.now given.t3 given.t4 in ap
+      let p = crossed byte_row given.square.now given.low given.high in ap
       (λ (k : ℕ). in_row p (a + 1) 1 k (in_rows p n ((a + 1) + 1) (n - (a + 1)))) (all_left n) ∙ sym (rows_on n a p n (search rules))
       ∙ c.before.pairs.invariant.1),
   search rules,
@@ -46,7 +46,7 @@ loop-again c =
     let b = turn.loop-b.b in (
       search rules,
       row_on given.n b _ (a + 1) _ (search rules)
-          (crossed-at byte_row given.square.now given.t3 given.t4 a b ∙ c.if-square-a.false)
+          (crossed-at byte_row given.square.now given.low given.high a b ∙ c.if-square-a.false)
           ∙ turn.loop-b.invariant.1,
       search rules,
       search rules,
@@ -76,7 +76,7 @@ returns-2 c =
     let a = row.pairs.a in
     let b = turn.loop-b.b in
     row_here given.n b _ (a + 1) _ (search rules)
-    (crossed-at byte_row given.square.now given.t3 given.t4 a b ∙ c.if-square-a.true)
+    (crossed-at byte_row given.square.now given.low given.high a b ∙ c.if-square-a.true)
     ∙ turn.loop-b.invariant.1
 
 pub first_broken_spec : {M : Type 1} → statement M

@@ -1,5 +1,5 @@
 -- The first r rules are marked; then for the first k places each row with the place marked has its marks, of row k the first i rows.
-use mathlib.Core.{Bool.not, List.{List, []}, Logic.⊎_elim, Path.{◌≡◌, refl, sym, ap, ◌∙◌}}
+use mathlib.Core.{Bool.not, List.{List, []}, Path.{◌≡◌, refl, sym, ap, ◌∙◌}}
 use Prim.Native.Nat.{ℕ, ◌≤◌, ◌-◌}
 use native.Mathlib.Omega.{arith}
 use lib.{ListN.{length, drop, get_or, set, length-set, replicate, length-replicate}, Seq.set-get_or}
@@ -9,6 +9,7 @@ use Rattle.sheet.specs.{Squares.{byte_row, square_of, rules_marked, sweep, join_
 use Rattle.sheet.proofs.{ByteRows.square_chained, Turns.{sweep_end, rounds-on, rounds_end, all_left}}
 use Rattle.sheet.proofs.Turns.{Inside, rules-on, rules_end, inside, join-marked, join_unmarked, sweep-on}
 use Rattle.sheet.proofs.square.first_broken.Statement.{statement}
+use Rattle.sheet.proofs.square.first_broken.Lts.{then-square-i-ne0, else-square-i-ne0}
 use Rattle.sheet.proofs.square.first_broken.Tie as tie
 
 abbrev invariant-loop : tie.invariant-loop-r
@@ -42,7 +43,7 @@ module _ (met : tie.After-after-b invariant-loop decreases-loop invariant-loop3 
   start = test.before.before.before
 
   points : Inside start.args.n (get_or start.args.rules.now test.before.loop-r.r 0)
-  points = inside start.args.n test.before.loop-r.r start.args.rules.now start.pre.1 test.loop-r-test.true
+  points = inside start.args.n test.before.loop-r.r start.args.rules.now start.requires.1 test.loop-r-test.true
 
 sub_square : tie.Need-overflow_sub-square invariant-loop decreases-loop invariant-loop3 decreases-loop3 invariant-loop2 decreases-loop2
 sub_square c = let f = points c in omega arith
@@ -53,10 +54,10 @@ sub_square_2 c = let f = points c in omega arith
 mul_square : tie.Need-offset_bounds-square-a invariant-loop decreases-loop invariant-loop3 decreases-loop3 invariant-loop2 decreases-loop2
 mul_square c = let f = points c in omega arith
 
-index_1_square : tie.Need-bounds-1-square invariant-loop decreases-loop invariant-loop3 decreases-loop3 invariant-loop2 decreases-loop2
+index_1_square : tie.Need-bounds-square-a invariant-loop decreases-loop invariant-loop3 decreases-loop3 invariant-loop2 decreases-loop2
 index_1_square c = let f = points c in omega arith
 
-index_2_square : tie.Need-bounds-2-square invariant-loop decreases-loop invariant-loop3 decreases-loop3 invariant-loop2 decreases-loop2
+index_2_square : tie.Need-bounds-square-b invariant-loop decreases-loop invariant-loop3 decreases-loop3 invariant-loop2 decreases-loop2
 index_2_square c = let f = points c in omega arith
 
 loop-again : tie.Need-loop-r-preserved invariant-loop decreases-loop invariant-loop3 decreases-loop3 invariant-loop2 decreases-loop2
@@ -64,7 +65,7 @@ loop-again c =
     let turn = (test c).before.loop-r in (
       search rules,
       search rules,
-      rw (c.before.before.before-a.ensures, c.after-b.ensures) (sym (rules-on _ turn.r byte_row _ (search rules)) ∙ turn.inv.2),
+      rw (c.before.before.before-a.ensures, c.after-b.ensures) (sym (rules-on _ turn.r byte_row _ (search rules)) ∙ turn.invariant.2),
     )
 
 -- ---- the rows joined
@@ -81,7 +82,7 @@ loop3-holds c =
     let n = round.before.before.before.before.args.n in (
       search rules,
       refl,
-      ap (λ (m : ℕ). sweep [] (join_via byte_row at.k (get_or at.square-1 at.k [])) 0 m at.square-1) (all_left n),
+      ap (λ (m : ℕ). sweep [] (join_via byte_row at.k (get_or at.square at.k [])) 0 m at.square) (all_left n),
     )
 
 loop3-again : tie.Need-loop-i-preserved invariant-loop decreases-loop invariant-loop3 decreases-loop3 invariant-loop2 decreases-loop2
@@ -93,11 +94,17 @@ loop3-again c =
     let i = turn.loop-i.i in
     let m = turn.loop-i.square in (
       search rules,
-      ⊎_elim (λ w. ap length w.3 ∙ (simp length-set turn.loop-i.invariant.1))
-          (λ w. ap length w.1 ∙ turn.loop-i.invariant.1) c.if-square-i-ne0.branch,
+      elim c.if-square-i-ne0.branch [
+        | then-square-i-ne0 w ↦ ap length w.square-is ∙ (simp length-set turn.loop-i.invariant.1)
+        | else-square-i-ne0 w ↦ ap length w.square-is ∙ turn.loop-i.invariant.1
+      ],
       ap (sweep [] _ _ _)
-          (⊎_elim (λ w. w.3 ∙ ap (set m i) (w.2.ensures ∙ sym (join-marked byte_row k _ 0 _ (ap not (ne_eqb _ 0 w.0.taken)))))
-          (λ w. w.1 ∙ sym (ap (set m i) (join_unmarked byte_row k _ 0 _ (ap not (eq-eqb _ 0 w.0.left))) ∙ set-get_or m i [])) c.if-square-i-ne0.branch)
+          (elim c.if-square-i-ne0.branch [
+            | then-square-i-ne0 w ↦
+                w.square-is ∙ ap (set m i) (w.join_row-joined.ensures ∙ sym (join-marked byte_row k _ 0 _ (ap not (ne_eqb _ 0 w.if-square-i-ne0.true))))
+            | else-square-i-ne0 w ↦
+                w.square-is ∙ sym (ap (set m i) (join_unmarked byte_row k _ 0 _ (ap not (eq-eqb _ 0 w.if-square-i-ne0.false))) ∙ set-get_or m i [])
+          ])
           ∙ sym (sweep-on n i [] (join_via byte_row _ _) _ (search rules)) ∙ turn.loop-i.invariant.2,
     )
 
@@ -132,7 +139,7 @@ module _ (c : tie.After-loop-k invariant-loop decreases-loop invariant-loop3 dec
       let l = first.args.rules.now in
       sym (rounds_end n round.loop-k.k byte_row n _ (search rules)) ∙ round.loop-k.invariant.2
       ∙ ap (rounds byte_row n 0 n) (sym (rules_end _ marked.before.loop-r.r byte_row _ (search rules)) ∙ marked.before.loop-r.invariant.2)
-      ∙ square_chained l n first.pre.0 first.pre.1
+      ∙ square_chained l n first.requires.0 first.requires.1
 
 returns : tie.Need-returns invariant-loop decreases-loop invariant-loop3 decreases-loop3 invariant-loop2 decreases-loop2
 returns c =
@@ -184,5 +191,5 @@ first_broken_spec =
     (λ c. search rules)
     loop2-again
     (λ c. sym (rows c.before))
-    (λ c κs. (omega (arith, rows c.before), (first c.before).pre.0))
+    (λ c κs. (omega (arith, rows c.before), (first c.before).requires.0))
     returns)

@@ -17,10 +17,10 @@ unfolding join_row
 loop-holds c = (search rules, refl)
 
 loop-again : tie.Need-loop-j-preserved invariant-loop decreases-loop
-loop-again c = (search rules, sym (sweep-on 32 c.before.loop-j.j 0 (ored c.before.before.args.t1) _ (search rules)) ∙ c.before.loop-j.invariant.1)
+loop-again c = (search rules, sym (sweep-on 32 c.before.loop-j.j 0 (ored c.before.before.args.via) _ (search rules)) ∙ c.before.loop-j.invariant.1)
 
 returns : tie.Need-returns invariant-loop decreases-loop
-returns c = sym (sweep_end 32 c.before.loop-j.j 0 (ored c.before.before.args.t1) _ (search rules)) ∙ c.before.loop-j.invariant.1
+returns c = sym (sweep_end 32 c.before.loop-j.j 0 (ored c.before.before.args.via) _ (search rules)) ∙ c.before.loop-j.invariant.1
 
 pub join_row_spec : {M : Type 1} → statement M
 join_row_spec =

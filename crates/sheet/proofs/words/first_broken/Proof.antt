@@ -29,7 +29,7 @@ loop-holds : tie.Need-loop-b-init invariant-loop decreases-loop invariant-pairs 
 loop-holds c = (
   search rules,
   (let given = c.before.before.before.args in let n = given.n in let a = c.before.before.pairs.a in
-      let p = crossed bit_row given.words.now given.t3 given.t4 in ap
+      let p = crossed bit_row given.words.now given.low given.high in ap
       (λ (k : ℕ). in_row p (a + 1) 1 k (in_rows p n ((a + 1) + 1) (n - (a + 1)))) (all_left n) ∙ sym (rows_on n a p n (search rules))
       ∙ c.before.before.pairs.invariant.1),
   search rules,
@@ -45,7 +45,7 @@ loop-again c =
     let b = turn.loop-b.b in (
       search rules,
       row_on given.n b _ (a + 1) _ (search rules)
-          (crossed-at bit_row given.words.now given.t3 given.t4 a b ∙ c.if-row-b.false)
+          (crossed-at bit_row given.words.now given.low given.high a b ∙ c.if-row-b.false)
           ∙ turn.loop-b.invariant.1,
       search rules,
       search rules,
@@ -75,7 +75,7 @@ returns-2 c =
     let a = row.pairs.a in
     let b = turn.loop-b.b in
     row_here given.n b _ (a + 1) _ (search rules)
-    (crossed-at bit_row given.words.now given.t3 given.t4 a b ∙ c.if-row-b.true)
+    (crossed-at bit_row given.words.now given.low given.high a b ∙ c.if-row-b.true)
     ∙ turn.loop-b.invariant.1
 
 pub first_broken_spec : {M : Type 1} → statement M

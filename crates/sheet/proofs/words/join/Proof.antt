@@ -1,10 +1,11 @@
-use mathlib.Core.{Logic.⊎_elim, Path.{◌≡◌, refl, sym, ap, ◌∙◌}}
+use mathlib.Core.{Path.{◌≡◌, refl, sym, ap, ◌∙◌}}
 use lib.{ListN.{set, length-set, length, get_or}, Seq.set-get_or}
 use borrow.Author.{Tests.{eq-eqb, ne_eqb}, Rules.rules}
 use Prim.Native.Nat.{ℕ, ◌≤◌, ◌-◌}
 use Rattle.sheet.specs.Squares.{bit_row, sweep, join_via, rounds}
 use Rattle.sheet.proofs.Turns.{join-marked, join_unmarked, sweep-on, sweep_end, rounds-on, rounds_end, all_left}
 use Rattle.sheet.proofs.words.join.Statement.{statement}
+use Rattle.sheet.proofs.words.join.Lts.{then-words-i-eq1, else-words-i-eq1}
 use Rattle.sheet.proofs.words.join.Tie as tie
 
 abbrev invariant-loop2 : tie.invariant-loop-i
@@ -42,11 +43,16 @@ loop2-again c =
     let i = turn.loop-i.i in
     let m = turn.loop-i.words in (
       search rules,
-      ⊎_elim (λ w. ap length w.2 ∙ (simp length-set turn.loop-i.invariant.1))
-          (λ w. ap length w.1 ∙ turn.loop-i.invariant.1) c.if-words-i-eq1.branch,
+      elim c.if-words-i-eq1.branch [
+        | then-words-i-eq1 w ↦ ap length w.words-is ∙ (simp length-set turn.loop-i.invariant.1)
+        | else-words-i-eq1 w ↦ ap length w.words-is ∙ turn.loop-i.invariant.1
+      ],
       ap (sweep 0 _ _ _)
-          (⊎_elim (λ w. w.2 ∙ ap (set m i) (sym (join-marked bit_row k _ 0 _ (eq-eqb _ 1 w.0.taken))))
-          (λ w. w.1 ∙ sym (ap (set m i) (join_unmarked bit_row k _ 0 _ (ne_eqb _ 1 w.0.left)) ∙ set-get_or m i 0)) c.if-words-i-eq1.branch)
+          (elim c.if-words-i-eq1.branch [
+            | then-words-i-eq1 w ↦ w.words-is ∙ ap (set m i) (sym (join-marked bit_row k _ 0 _ (eq-eqb _ 1 w.if-words-i-eq1.true)))
+            | else-words-i-eq1 w ↦
+                w.words-is ∙ sym (ap (set m i) (join_unmarked bit_row k _ 0 _ (ne_eqb _ 1 w.if-words-i-eq1.false)) ∙ set-get_or m i 0)
+          ])
           ∙ sym (sweep-on n i 0 (join_via bit_row _ _) _ (search rules)) ∙ turn.loop-i.invariant.2,
     )
 

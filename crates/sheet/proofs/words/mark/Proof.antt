@@ -29,13 +29,13 @@ module _ (met : tie.After-after-b invariant-loop decreases-loop) where
   start = test.before.before.before.before
 
   points : Inside start.args.n (get_or start.args.rules.now test.before.loop-i.i 0)
-  points = inside start.args.n test.before.loop-i.i start.args.rules.now start.pre.2 test.loop-i-test.true
+  points = inside start.args.n test.before.loop-i.i start.args.rules.now start.requires.2 test.loop-i-test.true
 
   few : start.args.n ≤ 32
-  few = start.pre.1
+  few = start.requires.1
 
   enough : 32 ≤ length test.before.loop-i.words
-  enough = let long = start.pre.0 in let same = test.before.loop-i.invariant.1 in omega arith
+  enough = let long = start.requires.0 in let same = test.before.loop-i.invariant.1 in omega arith
 
 sub_words : tie.Need-overflow_sub-words invariant-loop decreases-loop
 sub_words c = omega (arith, points c, few c)
@@ -70,10 +70,10 @@ loop-again c =
     let turn = (test met).before.loop-i in
     let w = get_or (start met).args.rules.now turn.i 0 in (
       search rules,
-      simp length-set turn.inv.1,
+      simp length-set turn.invariant.1,
       rw
           (met.before.before.before-a.ensures, met.after-b.ensures, shl_one (after w - 1) (omega (arith, points met, few met)))
-          (sym (rules-on _ turn.i bit_row _ (search rules)) ∙ turn.inv.2),
+          (sym (rules-on _ turn.i bit_row _ (search rules)) ∙ turn.invariant.2),
     )
 
 same_length : tie.Need-shape_of-words invariant-loop decreases-loop
