@@ -17,8 +17,7 @@ abbrev start : tie.After-admit-r → tie.Start
 start r =
     let k = r.before.before.before.before in
     let l = k.before.before.before.before in
-    let m = l.before.before.before.before in
-    m.before.before.before
+    l.before.before.before
 
 -- The queues, with any marks and next tables where none are lent.
 abbrev one : List ℕ → List ℕ → tie.After-admit-r → Queue
@@ -31,7 +30,7 @@ two marks next w =
 
 abbrev third : List ℕ → tie.After-admit-r → Queue
 third next w =
-    let a = (start w).args in queue_of a.third (records_of a.records.now) a.lefts-1.now a.rights-1.now a.labels-1.now a.marks-1.now next
+    let a = (start w).args in queue_of a.third (records_of a.records.now) a.lefts.now a.rights.now a.labels.now a.marks.now next
 
 returns : tie.Need-returns-then-r-ne0
 returns c marks1 next1 marks2 next2 next =
@@ -60,8 +59,8 @@ module _ (i : tie.Else-r-ne0) where
   small =
       few (one [] [] asked) (two [] [] asked) (third [] asked) (none [] [] [] [] []) n m (bare.first i.if-r-ne0.false) (bare.second i.if-r-ne0.false)
 
-  rows : InRows (one [] [] asked).tables.lefts-1 (anchor_in (one [] [] asked)).right n
-      × InRows (two [] [] asked).tables.lefts-1 (anchor_in (two [] [] asked)).right m
+  rows : InRows (one [] [] asked).tables.lefts (anchor_in (one [] [] asked)).right n
+      × InRows (two [] [] asked).tables.lefts (anchor_in (two [] [] asked)).right m
   rows =
       both_in_rows (one [] [] asked) (two [] [] asked) (third [] asked) (none [] [] [] [] []) n m (bare.first i.if-r-ne0.false) (bare.second i.if-r-ne0.false)
 
@@ -106,16 +105,16 @@ anchored_requires c κs =
 -- The third's tables as they were filled.
 module _ (f : tie.After-fill) where
   abbrev left : List ℕ
-  left = let t = f.fill.new.1.1.1.1 in t.1.1.1.1.0
+  left = f.fill.new.lefts
 
   abbrev right : List ℕ
-  right = let t = f.fill.last.1.1.1.1 in t.1.1.1.1.1.0
+  right = f.fill.new.rights
 
   abbrev label : List ℕ
-  label = let t = f.fill.last.1.1.1.1 in t.1.1.1.1.1.1.0
+  label = f.fill.new.labels
 
   abbrev mark : List ℕ
-  mark = let t = f.fill.last.1.1.1.1 in t.1.1.1.1.1.1.1.0
+  mark = f.fill.new.marks
 
 returns-3 : tie.Need-returns
 returns-3 c marks1 next1 marks2 next2 next =

@@ -12,7 +12,7 @@ use Rattle.join.proofs.zc_join.Tie as tie
 module _ (j : tie.After-join-d) where
   -- The last control that was read of its row, and what the call was given.
   abbrev read : tie.After-control_of-c
-  read = let k = j.before.before.before in k.before.before.before
+  read = let k = j.before.before.before in k.before.before
 
   abbrev start : tie.Start
   start =
@@ -30,19 +30,19 @@ module _ (j : tie.After-join-d) where
   two marks next = let a = start.args in queue_in a.second.now a.records2.now a.lefts2.now a.rights2.now a.labels2.now marks next
 
   abbrev third : List ℕ → Queue
-  third next = let a = start.args in queue_in a.third.now a.records-1.now a.lefts-1.now a.rights-1.now a.labels-1.now a.marks-1.now next
+  third next = let a = start.args in queue_in a.third.now a.records.now a.lefts.now a.rights.now a.labels.now a.marks.now next
 
   abbrev left : List ℕ
-  left = let t = j.join-d.last.1.1.1.1.1.1 in t.1.1.1.1.1.1.0
+  left = j.join-d.new.lefts
 
   abbrev right : List ℕ
-  right = let t = j.join-d.last.1.1.1.1.1.1 in t.1.1.1.1.1.1.1.0
+  right = j.join-d.new.rights
 
   abbrev label : List ℕ
-  label = let t = j.join-d.last.1.1.1.1.1.1 in t.1.1.1.1.1.1.1.1.0
+  label = j.join-d.new.labels
 
   abbrev mark : List ℕ
-  mark = let t = j.join-d.last.1.1.1.1.1.1 in t.1.1.1.1.1.1.1.1.1.0
+  mark = j.join-d.new.marks
 
   joined : (marks1 next1 marks2 next2 next : List ℕ) → Joins (one marks1 next1) (two marks2 next2) (third next) j.join-d.result left right label mark
   joined marks1 next1 marks2 next2 next =
@@ -53,7 +53,7 @@ module _ (j : tie.After-join-d) where
       (λ x y z. Joins
       (queue_of x (records_of a.records1.now) a.lefts1.now a.rights1.now a.labels1.now marks1 next1)
       (queue_of y (records_of a.records2.now) a.lefts2.now a.rights2.now a.labels2.now marks2 next2)
-      (queue_of z (records_of a.records-1.now) a.lefts-1.now a.rights-1.now a.labels-1.now a.marks-1.now next)
+      (queue_of z (records_of a.records.now) a.lefts.now a.rights.now a.labels.now a.marks.now next)
       j.join-d.result left right label mark)
       r1.control_of-a.result r2.control_of-b.result read.control_of-c.result
       (control_of a.first.now) (control_of a.second.now) (control_of a.third.now)

@@ -34,7 +34,7 @@ loop-again c =
           c.follow-x.ensures
           ∙ trail_more a.links.now a.end l.loop-k.k l.loop-k.x l.loop-k.invariant.at;
       done =
-          put.put_word.ensures ∙ filled_more (walked_to a.links.now a.end) l.loop-k.k a.out-1.now l.loop-k.out l.loop-k.x
+          put.put_word.ensures ∙ filled_more (walked_to a.links.now a.end) l.loop-k.k a.out.now l.loop-k.out l.loop-k.x
           l.loop-k.invariant.done (at_row a.links.now a.end l.loop-k.x l.loop-k.k l.loop-k.invariant.at);
     }
   where
@@ -52,14 +52,14 @@ same_length : tie.Need-shape_of-out invariant-loop decreases-loop
 same_length c =
     let l = c.before in
     let a = l.before.before.before.args in
-    ap length l.loop-k.invariant.done ∙ filled_length (walked_to a.links.now a.end) l.loop-k.k a.out-1.now
+    ap length l.loop-k.invariant.done ∙ filled_length (walked_to a.links.now a.end) l.loop-k.k a.out.now
 
 returns : tie.Need-returns invariant-loop decreases-loop
 returns c =
     let l = c.before in
     let a = l.before.before.before.args in
     let e : l.loop-k.k ≡ a.n = omega (arith, l.loop-k.invariant.few, c.loop-k-test.false) in
-    l.loop-k.invariant.done ∙ ap (λ (k : ℕ). filled (walked_to a.links.now a.end) k a.out-1.now) e
+    l.loop-k.invariant.done ∙ ap (λ (k : ℕ). filled (walked_to a.links.now a.end) k a.out.now) e
 
 pub gather_spec : {M : Type 1} → statement M
 gather_spec =

@@ -46,31 +46,31 @@ loop-again c =
     let inv = l.loop-k.invariant in
     let test = p.before.before.before.before.loop-k-test in
     record {
-      few = omega (arith, test.taken);
+      few = omega (arith, test.true);
       left = p.put_word.ensures
-          ∙ filled_more left_of k a.lefts-1.now l.loop-k.lefts _ inv.left (p.before.before.before.link_word-left.ensures ∙ link_packed k);
-      right = r.put_word-in-loop-k.ensures ∙ filled_more (right_to a.n) k a.rights-1.now l.loop-k.rights _ inv.right p.before.before.right_word-right.ensures;
-      mark = m.set_mark.ensures ∙ marked_more k a.marks-1.now l.loop-k.marks inv.mark;
+          ∙ filled_more left_of k a.lefts.now l.loop-k.lefts _ inv.left (p.before.before.before.link_word-left.ensures ∙ link_packed k);
+      right = r.put_word-in-loop-k.ensures ∙ filled_more (right_to a.n) k a.rights.now l.loop-k.rights _ inv.right p.before.before.right_word-right.ensures;
+      mark = m.set_mark.ensures ∙ marked_more k a.marks.now l.loop-k.marks inv.mark;
     }
 
 same_length : tie.Need-shape_of-lefts invariant-loop decreases-loop
-same_length c = let l = c.before in let a = (start l).args in ap length l.loop-k.invariant.left ∙ filled_length left_of l.loop-k.k a.lefts-1.now
+same_length c = let l = c.before in let a = (start l).args in ap length l.loop-k.invariant.left ∙ filled_length left_of l.loop-k.k a.lefts.now
 
 same_length_2 : tie.Need-shape_of-rights invariant-loop decreases-loop
-same_length_2 c = let l = c.before in let a = (start l).args in ap length l.loop-k.invariant.right ∙ filled_length (right_to a.n) l.loop-k.k a.rights-1.now
+same_length_2 c = let l = c.before in let a = (start l).args in ap length l.loop-k.invariant.right ∙ filled_length (right_to a.n) l.loop-k.k a.rights.now
 
 same_length_3 : tie.Need-shape_of-marks invariant-loop decreases-loop
-same_length_3 c = let l = c.before in let a = (start l).args in ap length l.loop-k.invariant.mark ∙ marked_length l.loop-k.k a.marks-1.now
+same_length_3 c = let l = c.before in let a = (start l).args in ap length l.loop-k.invariant.mark ∙ marked_length l.loop-k.k a.marks.now
 
 returns : tie.Need-returns invariant-loop decreases-loop
 returns c =
     let l = c.before in
     let a = (start l).args in
     let e : l.loop-k.k ≡ a.n = omega (arith, l.loop-k.invariant.few, c.loop-k-test.false) in (
-      l.loop-k.invariant.left ∙ ap (λ (k : ℕ). filled left_of k a.lefts-1.now) e,
+      l.loop-k.invariant.left ∙ ap (λ (k : ℕ). filled left_of k a.lefts.now) e,
       (
-        l.loop-k.invariant.right ∙ ap (λ (k : ℕ). filled (right_to a.n) k a.rights-1.now) e,
-        l.loop-k.invariant.mark ∙ ap (λ (k : ℕ). marked_to k a.marks-1.now) e,
+        l.loop-k.invariant.right ∙ ap (λ (k : ℕ). filled (right_to a.n) k a.rights.now) e,
+        l.loop-k.invariant.mark ∙ ap (λ (k : ℕ). marked_to k a.marks.now) e,
       ),
     )
 

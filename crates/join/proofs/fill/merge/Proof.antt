@@ -66,7 +66,7 @@ loop-again c =
       left = omega (arith, l.loop-k.invariant.left, t.next-t.ensures.0);
       rest = more.1;
       done =
-          p.put_label.ensures ∙ filled_more (label_of (merge (rows_down (f t) a.n) (rows_down (g t) a.m))) l.loop-k.k a.labels-1.now
+          p.put_label.ensures ∙ filled_more (label_of (merge (rows_down (f t) a.n) (rows_down (g t) a.m))) l.loop-k.k a.labels.now
           l.loop-k.labels _ l.loop-k.invariant.done more.0;
     }
 
@@ -74,7 +74,8 @@ same_length : tie.Need-shape_of-labels invariant-loop decreases-loop
 same_length c =
     let l = c.before in
     let a = (start l).args in
-    ap length l.loop-k.invariant.done ∙ filled_length _ l.loop-k.k a.labels-1.now
+    ap length l.loop-k.invariant.done ∙ filled_length (label_of (merge (rows_down (label_via a.labels1.now a.slots1.now) a.n)
+    (rows_down (label_via a.labels2.now a.slots2.now) a.m))) l.loop-k.k a.labels.now
 
 returns : tie.Need-returns invariant-loop decreases-loop
 returns c =
@@ -83,7 +84,7 @@ returns c =
     let e : l.loop-k.k ≡ a.n + a.m = omega (arith, l.loop-k.invariant.left, l.loop-k.invariant.whole, c.loop-k-test.false) in
     let f = label_via a.labels1.now a.slots1.now in
     let g = label_via a.labels2.now a.slots2.now in
-    l.loop-k.invariant.done ∙ ap (λ (k : ℕ). filled (label_of (merge (rows_down f a.n) (rows_down g a.m))) k a.labels-1.now) e
+    l.loop-k.invariant.done ∙ ap (λ (k : ℕ). filled (label_of (merge (rows_down f a.n) (rows_down g a.m))) k a.labels.now) e
 
 -- Something remains.
 next-requires : tie.Need-next-t-requires invariant-loop decreases-loop
@@ -92,7 +93,7 @@ next-requires c κs =
     omega (arith, w.loop-k-test.true, w.before.loop-k.invariant.left, w.before.loop-k.invariant.whole)
 
 add_k : tie.Need-overflow_add-k invariant-loop decreases-loop
-add_k c = let l = turn c in omega (arith, l.loop-k.invariant.left, (start l).pre)
+add_k c = let l = turn c in omega (arith, l.loop-k.invariant.left, (start l).requires)
 
 pub merge_spec : {M : Type 1} → statement M
 merge_spec =
