@@ -13,11 +13,20 @@ class Fn:
         new=v['places_by_name']
         for (o,par,fl,*rest),n in zip(v['places'],new):
             s.parent[n]=new[old.index(par)] if par else None
+        # steps that one record holds together
+        for arm,n in zip(v['arms'],new):
+            if arm:
+                q=n
+                for _ in range(arm[1]):
+                    if s.parent[q] is not None: q=s.parent[q]
+                s.fields[n]=arm[0]; s.parent_merged=getattr(s,'parent_merged',{}); s.parent_merged[n]=q
+        for n,q in getattr(s,'parent_merged',{}).items(): s.parent[n]=q
         s.typed={n:[x[1] for x in t] for n,t in zip(new,v['typed'])}
         oldfield={}
         s.known=set(f for f in s.fields.values() if f)
         s.asked={n[1]:a[1] for n,a in zip(v['needs'],v['asked_at'])}
         s.order=[n[1] for n in v['needs']]
+        s.nloops=len(v['loops'])
     def pos(s,root,field):
         p=root;k=0
         while p is not None:
@@ -37,6 +46,7 @@ class Fn:
             p=s.parent[p]
         return p
 def B(k): return '.before'*k
+ARGS={}
 def fixbody(fn,text,roots):
     """text of one declaration body; roots: var->place"""
     roots=dict(roots)
@@ -72,6 +82,10 @@ def fixbody(fn,text,roots):
         old=None
         for m in letre.finditer(text):
             if m.group(1)==x: old=m.group(3).count('.before'); break
+        for fname,pl in ARGS.items():
+            if pl in fn.parent and re.search(r"(?<![\w.'-])"+re.escape(fname)+r" "+re.escape(x)+r"(?![\w.'-])",text):
+                k=fn.dist(roots[r],pl)
+                if k is not None: direct=k
         base=direct if direct is not None else (min([old or 0]+cand) if cand else old)
         posn[x]=base
         roots[x]=fn.up(roots[r],base)
@@ -86,6 +100,14 @@ def fixbody(fn,text,roots):
             if p is not None: return f"{v}{B(p)}.{f}"
         return m.group(0)
     text=letre.sub(let,text)
+    def arg(m):
+        f,v,b=m.group(1),m.group(2),m.group(3)
+        pl=ARGS.get(f)
+        if v in roots and pl in fn.parent:
+            k=fn.dist(roots[v],pl)
+            if k is not None: return f"{f} {v}{B(k)}"
+        return m.group(0)
+    if ARGS: text=re.sub(r"(?<![\w.'-])("+"|".join(re.escape(a) for a in sorted(ARGS,key=len,reverse=True))+r") ("+NAME+r")((?:\.before)*)(?![\w.'-])",arg,text)
     out='';
     # do not touch inside let heads again
     out=usere.sub(use,text)
@@ -114,6 +136,7 @@ def params(sig):
             else: res.append(p)
     return res
 def fixfile(fn,t):
+    ARGS.clear()
     def place(ty):
         m=re.match(r"^\(?(?:tie|lts)\.("+NAME+")",ty)
         if not m: return None
@@ -142,6 +165,14 @@ def fixfile(fn,t):
                 pl=place(b)
                 if pl:
                     for x in a.split(): d[x]=pl
+            first=re.match(r"^\s*module _ \(("+NAME+r") : ((?:tie|lts)\.[^()]*)\)",L)
+            fp=place(first.group(2)) if first else None
+            if fp:
+                j=i+1
+                while j<len(lines) and (not lines[j].strip() or len(lines[j])-len(lines[j].lstrip())>ind):
+                    mm=re.match(r"^\s{"+str(ind+2)+r"}((?:abbrev |unfoldable |pub )*)("+NAME+r") :",lines[j])
+                    if mm: ARGS[mm.group(2)]=fp
+                    j+=1
             modroots.append((ind,d)); out.append(L); i+=1; continue
         m=re.match(r"^(\s*)((?:abbrev |unfoldable |pub )*)("+NAME+r") : (.*)$",L) or re.match(r"^(\s*)((?:abbrev |unfoldable |pub )*)("+NAME+r") :\s*()$",L)
         if m and not L.lstrip().startswith('--'):
@@ -149,6 +180,8 @@ def fixfile(fn,t):
             sig=m.group(4)
             while j<len(lines) and lines[j].strip() and (len(lines[j])-len(lines[j].lstrip()))>ind: sig+=' '+lines[j].strip(); j+=1
             sigs[(m.group(3))]=sig
+            pp=params(sig)
+            if pp and '→' in sig and place(pp[0]) and not pp[0].startswith(('tie.Need','lts.Need')): ARGS[m.group(3)]=place(pp[0])
             # fix paths in signature using roots of named params
             d=roots_now()
             for a,b in re.findall(r"\(((?:"+NAME+r"\s+)+): ((?:tie|lts)\.[^()]*)\)",sig):
@@ -183,11 +216,40 @@ def fixfile(fn,t):
             if pm and res and pm.group(1) in d:
                 k=fn.dist(d[pm.group(1)],res)
                 if k is not None: blk=re.sub(r"((?:\.before)+)$",B(k),blk)
+            elif res and re.match(r"^\s*"+re.escape(m.group(2))+r"[^=]*=\s+(?:let "+NAME+r" = "+NAME+r"(?:\.before)* in\s+)+"+NAME+r"(?:\.before)*\s*$",blk) and re.search(r"=\s+let "+NAME+r" = ("+NAME+r")",blk).group(1) in d:
+                rv=re.search(r"=\s+let "+NAME+r" = ("+NAME+r")",blk).group(1)
+                k=fn.dist(d[rv],res)
+                if k is not None: blk=blk[:blk.index('=')]+f"= {rv}{B(k)}"
+            elif res and re.search(r"= let ("+NAME+r") = ("+NAME+r")(?:\.before)* in \1(?:\.before)*$",blk):
+                mm=re.search(r"= let ("+NAME+r") = ("+NAME+r")(?:\.before)* in \1(?:\.before)*$",blk)
+                if mm.group(2) in d and fn.dist(d[mm.group(2)],res) is not None:
+                    blk=blk[:mm.start()]+f"= {mm.group(2)}{B(fn.dist(d[mm.group(2)],res))}"
             else: blk=fixbody(fn,blk,d)
             # spec arguments
             if m.group(2).endswith('_spec') and 'tie.spec' in blk:
-                al=re.split(r"(?=\n\s+\(λ|\n\s+"+NAME+r"(?:\)|$|\n))",blk)
-                pass
+                k=blk.index('tie.spec')+8
+                res2=blk[:k]; args=[]; q=k; depth=0; cur=''
+                while q<len(blk):
+                    ch=blk[q]
+                    if depth==0 and ch==')': break
+                    if ch in '([{': depth+=1
+                    if ch in ')]}': depth-=1
+                    if depth==0 and ch.isspace():
+                        if cur.strip(): args.append(cur); cur=''
+                        cur+=ch
+                    else: cur+=ch
+                    q+=1
+                if cur.strip(): args.append(cur)
+                skip=2*fn.nloops
+                out2=[]
+                for n_,a_ in enumerate(args):
+                    mm=re.match(r"^\s*\(λ ("+NAME+r")\b",a_)
+                    if mm and n_>=skip and n_-skip<len(fn.order) and mm.group(1)!='_' :
+                        pl=fn.asked.get(fn.order[n_-skip])
+                        if pl: a_=fixbody(fn,a_,{**roots_now(),mm.group(1):pl})
+                    out2.append(a_)
+                blk=res2+''.join(out2)+blk[q:]
+                if len(args)-skip!=len(fn.order): print('  spec arguments:',len(args)-skip,'needs:',len(fn.order),fn.order)
             out.append(blk); i=j; continue
         out.append(L); i+=1
     return '\n'.join(out)
@@ -207,7 +269,10 @@ def run(crate,only=None):
         for a,_,fs in os.walk(os.path.join(folder,'Proof')): ps+=[os.path.join(a,x) for x in fs]
         for p in ps:
             if not os.path.exists(p): continue
-            t=open(p).read(); n=fixfile(fn,t)
+            t=open(p).read()
+            which=key[len(pre):].split('.Lts')[1]
+            if which and not re.search(r'\.Lts'+re.escape(which)+r'(?![\w-])',t): continue
+            n=fixfile(fn,t)
             if n!=t: open(p,'w').write(n); print('fixed',p)
 if __name__=='__main__':
     for c in sys.argv[1:]: run(c)
