@@ -3,8 +3,8 @@
 
 ghost use mathlib.Core.{Bool.cond, List.List, Path.◌≡◌};
 ghost use Rattle.std.specs.Prelude.{set, ℕ};
-ghost use Rattle.layout.specs.Rows.{queue_in, uppers_of};
 ghost use Rattle.join_model.specs.Join.{Joined, join, laid};
+ghost use Rattle.layout.specs.Rows.{queue_in, uppers_of};
 
 /// The same for C and Rust, with controls and records lent as rows of words; whatever the sources' marks and any next table, which are not lent.
 #[unsafe(no_mangle)]
