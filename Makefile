@@ -32,7 +32,7 @@ exports:
 target/lib/libzeppolecape.a: crates.txt $(shell find crates -name out -prune -o \( -name '*.rt' -o -name '*.antt' \) -print)
 	@command -v rt >/dev/null || { echo "make: the Rattle toolchain (rt) is not on the PATH; see README.md, Requirements" >&2; exit 1; }
 	@echo "proving the library, once, and compiling it:"
-	@tools/progress proved $(EXPORTS) -- tools/archives $(EXPORTS)
+	@tools/progress proved $(EXPORTS) -- tools/build $(EXPORTS)
 	rm -rf target/lib && mkdir -p target/lib/members
 	cd target/lib/members && for name in $(EXPORTS); do \
 		ar x ../../../crates/$$name/out/lib$$name.a && { [ "$$name" = "$${name%_c}" ] || mv $$name.o $${name%_c}.o; } || exit 1; done
