@@ -32,13 +32,13 @@ module _ (k : tie.After-well_formed invariant-loop decreases-loop) where
   abbrev cs : List Finished
   cs = calls_in at.before.before.before.args.words.now
 
-  turn : (a b : Bool) → k.well_formed_lem.result ≡ a → all_of (apart k.before.call_at-c.result) (drop (at.loop-i.i + 1) cs) ≡ b
+  turn : (a b : Bool) → k.well_formed.result ≡ a → all_of (apart k.before.call_at-c.result) (drop (at.loop-i.i + 1) cs) ≡ b
       → passes well_formed apart (drop at.loop-i.i cs) ≡ a && (b && passes well_formed apart (drop (at.loop-i.i + 1) cs))
   turn a b e f =
       let is = sym k.before.call_at-c.ensures in
       let len = count-is at.before.before.before.args.words.now in
       let less = k.before.before.loop-i-test.true in
-      passes_turn well_formed apart cs at.loop-i.i nobody a b (omega arith) (ap well_formed is ∙ sym k.well_formed_lem.ensures ∙ e)
+      passes_turn well_formed apart cs at.loop-i.i nobody a b (omega arith) (ap well_formed is ∙ sym k.well_formed.ensures ∙ e)
       (ap (λ (d : Finished). all_of (apart d) (drop (at.loop-i.i + 1) cs)) is ∙ f)
 
 returns-2 : tie.Need-returns-then-not-well_formed invariant-loop decreases-loop
