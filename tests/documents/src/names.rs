@@ -174,7 +174,8 @@ impl Names {
         let wanted = path.trim_start_matches("./").trim_end_matches('/').replace("NAME", "*");
         let wanted = wanted.as_str();
         let outside = ["target/", "/opt/rattle", "/dev/"];
-        if wanted == "target" || outside.iter().any(|top| wanted.starts_with(top)) {
+        let built = wanted.starts_with("crates/") && wanted.split('/').nth(2) == Some("out");
+        if wanted == "target" || built || outside.iter().any(|top| wanted.starts_with(top)) {
             return true;
         }
         let Some((before, behind)) = wanted.split_once('*') else {
