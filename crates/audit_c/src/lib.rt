@@ -1,7 +1,7 @@
 //! The verdict on a history for C and Rust: the call of crate `audit`, in an archive of its own.
 #![tactic(auto)]
 
-ghost use mathlib.Core.Path.◌≡◌;
+ghost use mathlib.Core.Path.{◌≡◌};
 ghost use Rattle.audit_model.specs.{Audit.verdict, LentHistory.{calls_in, verdict_reply}};
 
 use audit_model::VerdictReply;

@@ -2,7 +2,7 @@
 #![tactic(auto)]
 
 ghost use mathlib.Core.{List.List, Path.◌≡◌};
-ghost use Rattle.std.specs.Prelude.ℕ;
+ghost use Rattle.std.specs.Prelude.{ℕ};
 ghost use Rattle.model.specs.{Calls.{act, open_pooled, open_queue}, Ends.{ends_call, is_moved}, Report.{report, retry_counts}, declared.Op.TheVariants.{Pop, Push, PushPooled, Step}};
 ghost use Rattle.layout.specs.Rows.{queue_in, uppers_of};
 ghost use Rattle.capi.specs.Replies.{Coded, Replied, coded, replied, report_reply_of};

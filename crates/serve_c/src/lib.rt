@@ -1,8 +1,8 @@
 //! A list of requests for C and Rust: the call of crate `serve`, in an archive of its own.
 #![tactic(auto)]
 
-ghost use mathlib.Core.Bool.not;
-ghost use lib.Dec.eqb;
+ghost use mathlib.Core.Bool.{not};
+ghost use lib.Dec.{eqb};
 ghost use Rattle.serve.specs.Serving.{Serves, state_in};
 
 use serve::ServeReply;

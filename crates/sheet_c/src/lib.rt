@@ -2,10 +2,10 @@
 #![tactic(auto)]
 
 ghost use mathlib.Core.{List.List, Path.◌≡◌};
-ghost use Rattle.std.specs.Prelude.ℕ;
-ghost use Rattle.model.specs.Tables.tables_of;
+ghost use Rattle.std.specs.Prelude.{ℕ};
+ghost use Rattle.model.specs.Tables.{tables_of};
 ghost use Rattle.sheet_model.specs.Verdict.{Printed, sheet, sheet_words};
-ghost use Rattle.layout.specs.Rows.control_of;
+ghost use Rattle.layout.specs.Rows.{control_of};
 
 use sheet_model::SheetReply;
 

@@ -1,7 +1,7 @@
 //! The touches of threads for C and Rust: the calls of crate `touch`, in an archive of its own.
 #![tactic(auto)]
 
-ghost use Rattle.std.specs.Prelude.◌≡◌;
+ghost use Rattle.std.specs.Prelude.{◌≡◌};
 ghost use Rattle.threads_model.specs.{Split.{heard_as, plan, settle}, Starts.{plan_start, settle_start}};
 ghost use Rattle.layout.specs.Rows.{call_of, record_of, upper_of};
 ghost use Rattle.touch.specs.{Heard.{Replied, replied}, Started.{Started, start_of, started_by}};
