@@ -1,6 +1,7 @@
 //! The step of one lent record for C and Rust: the call of crate `capi_record`, in an archive of its own.
 #![tactic(auto)]
 
+ghost use Rattle.std.specs.Prelude.{◌≡◌};
 ghost use Rattle.model.specs.{Calls.step_lent, Tables.tables_of};
 ghost use Rattle.layout.specs.Rows.{control_of, record_of, upper_of};
 ghost use Rattle.capi_record.specs.Replies.{RepliedAlone, replied_alone};

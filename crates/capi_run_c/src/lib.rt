@@ -1,6 +1,7 @@
 //! A task stepped until it answers for C and Rust: the call of crate `capi_run`, in an archive of its own.
 #![tactic(auto)]
 
+ghost use Rattle.std.specs.Prelude.{◌≡◌};
 ghost use Rattle.model.specs.Solo.{solo_run};
 ghost use Rattle.layout.specs.Rows.{queue_in, uppers_of};
 ghost use Rattle.capi_run.specs.Replies.{Ran, ran};

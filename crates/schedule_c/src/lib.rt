@@ -1,6 +1,7 @@
 //! The next schedule for C and Rust: the call of crate `schedule`, in an archive of its own.
 #![tactic(auto)]
 
+ghost use mathlib.Core.Path.{◌≡◌};
 ghost use Rattle.model.specs.Tables.{tables_of};
 ghost use Rattle.layout.specs.Rows.{control_of, records_of};
 ghost use Rattle.schedule.specs.Answered.{Answered, answered};

@@ -1,6 +1,7 @@
 //! Saving and returning for C and Rust: the calls of crate `shelf`, in an archive of its own.
 #![tactic(auto)]
 
+ghost use Rattle.std.specs.Prelude.{◌≡◌};
 ghost use Rattle.layout.specs.Rows.{queue_in, uppers_of};
 ghost use Rattle.shelf.specs.Lent.{Returned, Saved, returning, saving, shelves_in};
 
