@@ -3,6 +3,8 @@
 //!
 //! No place has a rule here: which word it touches (`decide::touched`), what it makes of the word found and which new
 //! word it would put are the functions that the step itself calls.
+#![tactic(auto)]
+
 ghost use mathlib.Core.{Path.◌≡◌, List.List};
 ghost use Rattle.std.specs.Prelude.{ℕ, leb, ltb};
 ghost use Rattle.model.specs.{Tables.tables_of, Places.row, Refusals.step_refusal};

@@ -4,6 +4,8 @@
 //! A history is lent as words, seven a call (`Finished`), and read in place; the only memory besides is 128 bytes for the queue.
 //! Sixty-four calls take some 2,000 comparisons of two calls, each held against every other for its events; the order is gone
 //! through once for numbers listed twice, once for the first position that stands too early, and once to serve the calls.
+#![tactic(auto)]
+
 mod calls;
 mod labels;
 mod order;

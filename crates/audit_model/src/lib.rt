@@ -1,8 +1,9 @@
 //! A history of finished calls and the verdict on it, by value. What the verdict is stands in `specs/Audit.antt`.
+#![tactic(auto)]
 
 /// A finished call, as a history tells it. The task is told, and decides nothing.
 #[repr(C)]
-#[derive(Drop)]
+#[derive(Clone, Copy)]
 pub struct Finished {
     pub task: u64,
     /// 0 push, 1 pop.
@@ -19,7 +20,7 @@ pub struct Finished {
     pub end: u64,
 }
 
-#[derive(Drop)]
+#[derive(Clone, Copy)]
 pub enum Verdict {
     /// With the document's number, 40.
     Refused(u32),
@@ -30,7 +31,7 @@ pub enum Verdict {
 
 /// A verdict in numbers, as C sees it.
 #[repr(C)]
-#[derive(Drop)]
+#[derive(Clone, Copy)]
 pub struct VerdictReply {
     /// 0 it passes, 1 it fails, or the number of a refusal.
     pub code: u32,

@@ -9,7 +9,7 @@ use model::{Control, Opening};
 use sound::Lengths;
 use word::Anchor;
 
-#[derive(Drop)]
+#[derive(Clone, Copy)]
 pub struct OpenedTables {
     /// The new one, or the old one where the opening is refused.
     pub control: Control,

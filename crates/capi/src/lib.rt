@@ -1,5 +1,7 @@
 //! The label queue for C and Rust. Control and records are lent as rows of words, which in memory are the
 //! structs of the header. The step of one lent record stands in crate `capi_record`.
+#![tactic(auto)]
+
 pub mod openings;
 
 ghost use mathlib.Core.{Path.◌≡◌, List.List};
@@ -16,7 +18,7 @@ use rows::op;
 
 /// A report in numbers.
 #[repr(C)]
-#[derive(Drop)]
+#[derive(Clone, Copy)]
 pub struct ReportReply {
     /// 0, or the number of a refusal; the rest is then 0.
     pub code: u64,
@@ -189,7 +191,7 @@ pub extern "C" fn zc_step(
 }
 
 // What the report tells of the records.
-#[derive(Drop)]
+#[derive(Clone, Copy)]
 struct Looked {
     busy: u64,
     retries: [u64; 16],

@@ -1,5 +1,7 @@
 //! The step of one lent record for C and Rust. It has an archive of its own: a step that two calls
 //! of one archive share is compiled once and not into either, which makes both slower.
+#![tactic(auto)]
+
 ghost use Rattle.std.specs.Prelude.{◌≡◌};
 ghost use Rattle.model.specs.{Tables.tables_of, Calls.step_lent};
 ghost use Rattle.layout.specs.Rows.{control_of, record_of, upper_of};

@@ -1,5 +1,7 @@
 //! A task stepped until it answers, for C and Rust. It has an archive of its own: a step that two calls
 //! of one archive share is compiled once and not into either, which makes both slower.
+#![tactic(auto)]
+
 ghost use Rattle.std.specs.Prelude.{◌≡◌, get_or};
 ghost use Rattle.model.specs.{declared.{Answer.TheVariants.Running, Outcome.TheVariants.Moved}, Tables.unused};
 ghost use Rattle.model.specs.Solo.{solo_run};
@@ -10,7 +12,7 @@ use model::{Answer, Outcome};
 
 /// An outcome in numbers, and the steps made.
 #[repr(C)]
-#[derive(Drop)]
+#[derive(Clone, Copy)]
 pub struct RunReply {
     /// 1 running, 2 pushed, 3 empty, 4 popped, 5 no slot, or the number of a refusal.
     pub code: u32,

@@ -3,6 +3,8 @@
 //!
 //! A `w` is the word found: at 3, 5, 7 and 9 the link word of the slot's row, at 13 its next. Anchor and head are
 //! found in control; what their places make of them is `at1`, `at2`, .. themselves.
+#![tactic(auto)]
+
 pub mod side;
 pub mod step;
 pub mod touched;

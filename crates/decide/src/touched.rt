@@ -16,7 +16,7 @@ pub fn is_slot(slots: u64, x: u64) -> bool
 }
 
 /// A link word of a slot: its Right or its Left.
-#[derive(Drop)]
+#[derive(Clone, Copy)]
 pub struct LinkWord {
     pub right: bool,
     pub slot: u64,

@@ -1,5 +1,7 @@
 //! The step over a lent control and lent structs, in document 01's two forms: a slice of records, and one
 //! record. Rows of words (crate `rows`) take the same way without a proof by hand.
+#![tactic(auto)]
+
 ghost use Rattle.std.specs.Prelude.{◌≡◌};
 ghost use Rattle.model.specs.{declared.Op.TheVariants.Step, Tables.{tables_of, queue_of}, Calls.{Done, act, step_lent}};
 ghost use Rattle.model.specs.Calls as calls;

@@ -1,4 +1,6 @@
 //! Outcomes: whether a step was carried out, whether it ended its call, and its reply in numbers.
+#![tactic(auto)]
+
 ghost use Rattle.std.specs.Prelude.{◌≡◌};
 ghost use Rattle.model.specs.{Calls.reply_of, Ends.{answer_ends, ends_call, is_moved, is_running}};
 

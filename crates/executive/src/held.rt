@@ -11,7 +11,7 @@ use model::{Control, Op, Outcome, Record};
 use rows::op;
 
 /// Control, records and tables of a queue of 3 slots.
-#[derive(Drop)]
+#[derive(Clone, Copy)]
 pub struct Held {
     pub control: Control,
     pub records: [Record; TASKS],
@@ -23,7 +23,7 @@ pub struct Held {
 }
 
 /// A queue after a start or step, and its outcome.
-#[derive(Drop)]
+#[derive(Clone, Copy)]
 pub struct Done {
     pub held: Held,
     pub outcome: Outcome,

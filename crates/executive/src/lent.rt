@@ -10,7 +10,7 @@ use rows::value::Stepped;
 pub const TASKS: usize = 2;
 
 /// What a step leaves of control and the records, and its outcome.
-#[derive(Drop)]
+#[derive(Clone, Copy)]
 pub struct Moved {
     pub control: Control,
     pub records: [Record; TASKS],

@@ -1,5 +1,7 @@
 //! Document 01's worked example, run by an executive of two tasks over a queue of its own: task 0 steps with the records lent side by side,
 //! task 1 with its record lent alone.
+#![tactic(auto)]
+
 mod held;
 mod lent;
 mod print;

@@ -1,4 +1,6 @@
 //! Where labels wait, found in one walk of the queue that reads each waiting slot's row once.
+#![tactic(auto)]
+
 ghost use mathlib.Core.{Path.◌≡◌, Bool.{true, false, ◌||◌}, List.List};
 ghost use Rattle.std.specs.Prelude.{ℕ, ◌+◌, ◌%◌, ◌<◌, ◌≤◌};
 ghost use lib.{Dec.{leb, ltb}, ListN.{length, get_or, set, replicate}};
@@ -182,7 +184,7 @@ fn refusal(
 }
 
 /// What is answered beside the positions.
-#[derive(Drop)]
+#[derive(Clone, Copy)]
 struct Sought {
     /// 0, or the number of a refusal.
     code: u64,

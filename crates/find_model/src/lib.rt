@@ -1,8 +1,9 @@
 //! Where labels wait: the answer by value. What it means is in `specs/`.
+#![tactic(auto)]
 
 /// The answer as C sees it.
 #[repr(C)]
-#[derive(Drop)]
+#[derive(Clone, Copy)]
 pub struct FindReply {
     /// 0, or the number of a refusal; the rest is then 0.
     pub code: u64,

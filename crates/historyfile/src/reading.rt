@@ -10,7 +10,7 @@ use crate::words;
 use crate::words::Meaning;
 
 /// Where the reading stands.
-#[derive(Drop)]
+#[derive(Clone, Copy)]
 pub struct Place {
     /// The line, from 1.
     pub line: u64,
@@ -23,7 +23,7 @@ pub struct Place {
 }
 
 /// Behind a word: where the reading stands, and the number that it gave, if any.
-#[derive(Drop)]
+#[derive(Clone, Copy)]
 pub struct Turn {
     pub place: Place,
     pub gives: bool,
@@ -31,7 +31,7 @@ pub struct Turn {
 }
 
 /// How far the reading is: the numbers kept of the calls and of the order, where the word under way begins, and whether a comment is read.
-#[derive(Drop)]
+#[derive(Clone, Copy)]
 pub struct State {
     pub place: Place,
     pub calls: usize,

@@ -4,7 +4,7 @@ ghost use Rattle.historyfile.specs.{Text.{is_blank, of_word}, Words.{all_digits,
 ghost use Rattle.historyfile.specs.Words as meaning;
 
 /// What a word says.
-#[derive(Drop)]
+#[derive(Clone, Copy)]
 pub enum Meaning {
     Number(u64),
     /// `-` in the place of a label.

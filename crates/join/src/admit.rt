@@ -131,7 +131,7 @@ fn final_rules(
 }
 
 /// Whether the joining is admitted, and how many labels wait in each of the two queues.
-#[derive(Drop)]
+#[derive(Clone, Copy)]
 pub struct Admission {
     /// 0, or the number of a refusal.
     pub code: u32,

@@ -23,7 +23,7 @@ fn gather(n: u64, end: u64, links: &[u64], out: &mut [u64])
 }
 
 /// The label that goes next, and how many then remain of each queue.
-#[derive(Drop)]
+#[derive(Clone, Copy)]
 struct Going {
     label: u32,
     first: u64,

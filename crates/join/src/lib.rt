@@ -1,4 +1,6 @@
 //! Two queues at rest joined in a third that is fresh.
+#![tactic(auto)]
+
 ghost use mathlib.Core.{Path.◌≡◌, Bool.cond, List.List};
 ghost use Rattle.std.specs.Prelude.{ℕ, ◌≤◌, set};
 ghost use Rattle.word.specs.Anchor.{anchor_of};
@@ -15,7 +17,7 @@ mod fill;
 mod rest;
 
 /// What the joining answers, and what it leaves of control.
-#[derive(Drop)]
+#[derive(Clone, Copy)]
 pub struct Done {
     /// 0, or the number of a refusal.
     pub code: u32,

@@ -1,4 +1,6 @@
 //! The verdict on a history as text, and what is said of it (`say`). `historyfile` reads the text.
+#![tactic(auto)]
+
 pub mod say;
 
 ghost use Rattle.std.specs.Prelude.{◌≡◌, ◌≤◌, length, take};
@@ -9,7 +11,7 @@ use audit_model::Verdict;
 use historyfile::reading;
 use historyfile::reading::Place;
 
-#[derive(Drop)]
+#[derive(Clone, Copy)]
 pub enum Judged {
     /// The text cannot be read: where, and why. Without a fault the order is missing.
     Unread(Place),

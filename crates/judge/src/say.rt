@@ -10,7 +10,7 @@ use historyfile::reading::Place;
 use historyfile::words;
 
 /// How many bytes were written, and whether they tell a verdict; otherwise they tell why the text cannot be read.
-#[derive(Drop)]
+#[derive(Clone, Copy)]
 pub struct Said {
     pub length: usize,
     pub told: bool,

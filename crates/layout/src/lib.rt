@@ -1,5 +1,7 @@
 //! Control and records as rows of words, as C lends them: which word is which field. To C a control is a struct of so
 //! many words, and so is a record.
+#![tactic(auto)]
+
 ghost use Rattle.std.specs.Prelude.{◌≡◌, ◌/◌, ◌%◌, ◌^◌, ◌≤◌, min, length, get_or, set};
 ghost use Rattle.model.specs.{Tables.unused, Lists.zeroed};
 ghost use Rattle.layout.specs.Rows.{control_of, call_of, record_of, records_of, upper_of, uppers_of, with_call_at};

@@ -1,4 +1,6 @@
 //! A line of the trace, a text or a number, written into a lent buffer where it has room.
+#![tactic(auto)]
+
 mod number;
 
 ghost use Rattle.std.specs.Prelude.{◌≡◌, ◌+◌, ◌≤◌};
@@ -10,7 +12,7 @@ ghost use Rattle.lines.specs.declared.Line;
 use model::{Answer, Entry, Op, Opening, Outcome};
 
 /// What a line tells besides its event number and Anchor.
-#[derive(Drop)]
+#[derive(Clone, Copy)]
 pub enum Line {
     Open(Opening),
     Act {

@@ -1,4 +1,6 @@
 //! How many slots are taken: the ones of each mark word under its mask, added up.
+#![tactic(auto)]
+
 ghost use Rattle.std.specs.Prelude.{◌≡◌, ◌-◌, ◌*◌, ◌/◌, ◌≤◌, min};
 ghost use Rattle.model.specs.Report.{taken_slots};
 ghost use Rattle.marks.specs.Masked.{masked_word};

@@ -1,9 +1,11 @@
 //! The types of the label queue, by value. What every call means is in `specs/`.
+#![tactic(auto)]
+
 use word::Anchor;
 
 /// What all tasks share besides the slot rows and the marks.
 #[repr(C)]
-#[derive(Drop)]
+#[derive(Clone, Copy)]
 pub struct Control {
     pub tasks: u64,
     pub slots: u64,
@@ -16,7 +18,7 @@ pub struct Control {
 
 /// Where a task stands in its call; all zero while it has none.
 #[repr(C)]
-#[derive(Drop)]
+#[derive(Clone, Copy)]
 pub struct Call {
     /// 0 idle, or the place of the next step, 1 to 17.
     pub place: u64,
@@ -40,7 +42,7 @@ pub struct Call {
 
 /// A task's record: its call, and what outlives it.
 #[repr(C)]
-#[derive(Drop)]
+#[derive(Clone, Copy)]
 pub struct Record {
     pub call: Call,
     /// The task's failed changes since the opening.
@@ -48,14 +50,14 @@ pub struct Record {
 }
 
 /// A label in its slot.
-#[derive(Drop)]
+#[derive(Clone, Copy)]
 pub struct Entry {
     pub slot: u64,
     pub label: u32,
 }
 
 /// What a step answers when it is carried out.
-#[derive(Drop)]
+#[derive(Clone, Copy)]
 pub enum Answer {
     /// With the next place.
     Running(u64),
@@ -68,7 +70,7 @@ pub enum Answer {
 
 /// What a start or step answers. A start that is carried out is `Moved` and running, with its first place
 /// next: 1, or 12 where it names no slot.
-#[derive(Drop)]
+#[derive(Clone, Copy)]
 pub enum Outcome {
     /// With the document's number.
     Refused(u32),
@@ -77,7 +79,7 @@ pub enum Outcome {
 
 /// What a start or step leaves of control and its task's call, its outcome, and whether a change failed,
 /// which the task's record counts.
-#[derive(Drop)]
+#[derive(Clone, Copy)]
 pub struct Transition {
     pub control: Control,
     pub task: Call,
@@ -86,14 +88,14 @@ pub struct Transition {
 }
 
 /// What an opening answers.
-#[derive(Drop)]
+#[derive(Clone, Copy)]
 pub enum Opening {
     Refused(u32),
     Opened,
 }
 
 /// What the report tells.
-#[derive(Drop)]
+#[derive(Clone, Copy)]
 pub struct Report {
     pub anchor: Anchor,
     pub busy: u64,
@@ -103,14 +105,14 @@ pub struct Report {
     pub taken: u64,
 }
 
-#[derive(Drop)]
+#[derive(Clone, Copy)]
 pub enum Reported {
     Refused(u32),
     Told(Report),
 }
 
 /// One operation of a task.
-#[derive(Drop)]
+#[derive(Clone, Copy)]
 pub enum Op {
     Push { side: u64, slot: u64, label: u32 },
     Pop { side: u64 },
@@ -121,7 +123,7 @@ pub enum Op {
 
 /// An outcome in numbers, as C sees it.
 #[repr(C)]
-#[derive(Drop)]
+#[derive(Clone, Copy)]
 pub struct Reply {
     /// 1 running, 2 pushed, 3 empty, 4 popped, 5 no slot, or the number of a refusal.
     pub code: u32,
@@ -132,7 +134,7 @@ pub struct Reply {
 }
 
 /// What a push alone is asked before it starts. A start that is not asked passes.
-#[derive(Drop)]
+#[derive(Clone, Copy)]
 pub struct Asked {
     /// It names a slot in a pooled queue, or none in a named one: 41.
     pub wrong: bool,

@@ -6,6 +6,8 @@
 //! it refuses with 34 what the place may not touch and then changes nothing.
 //! Line numbers are those of source 003. Figures 3 and 5 show the right side;
 //! at places 5 to 10, figure 4, the side is the one that the status as read names.
+#![tactic(auto)]
+
 pub mod links;
 pub mod pool;
 

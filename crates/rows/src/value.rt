@@ -7,7 +7,7 @@ ghost use Rattle.engine.specs.StepAdmitted.{step_admitted};
 use model::{Control, Outcome, Record};
 
 /// What a step leaves of control and its task's record, and its outcome.
-#[derive(Drop)]
+#[derive(Clone, Copy)]
 pub struct Stepped {
     pub control: Control,
     pub task: Record,

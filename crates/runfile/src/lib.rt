@@ -1,4 +1,6 @@
 //! Tagged fields: one tag byte, two length bytes, content, numbers high byte first.
+#![tactic(auto)]
+
 ghost use Rattle.std.specs.Prelude.{◌≡◌, ◌+◌, ◌-◌, ◌≤◌, ◌<◌, length, get_or, drop};
 ghost use Rattle.runfile.specs.Field.{two_at, four_at, formed, content_of, missing, field_of};
 
@@ -7,7 +9,7 @@ use model::Op;
 /// The bytes of a field before its content: the tag and the length.
 pub const HEAD: usize = 3;
 
-#[derive(Drop)]
+#[derive(Clone, Copy)]
 pub enum Field {
     Open {
         pooled: bool,
@@ -29,7 +31,7 @@ pub enum Field {
 }
 
 /// A field, and how many bytes it takes: none where there is no whole one.
-#[derive(Drop)]
+#[derive(Clone, Copy)]
 pub struct Found {
     pub field: Field,
     pub size: usize,

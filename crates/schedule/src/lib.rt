@@ -1,4 +1,6 @@
 //! Every order for two tasks: the schedule after the one that the lent memory holds.
+#![tactic(auto)]
+
 ghost use mathlib.Core.{Path.◌≡◌, Bool.{◌&&◌, not, false}, List.{List, [], ◌∷◌}};
 ghost use lib.{Dec.{eqb, leb}, ListN.get_or};
 ghost use Rattle.model.specs.{declared.Record.Record, Tables.{tables_of, queue_of, unused}, Refusals.{first, table_rules}};

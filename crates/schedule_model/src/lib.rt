@@ -1,8 +1,9 @@
 //! Every order for two tasks: the answer by value. What it means is in `specs/`.
+#![tactic(auto)]
 
 /// The answer as C sees it.
 #[repr(C)]
-#[derive(Drop)]
+#[derive(Clone, Copy)]
 pub struct ScheduleReply {
     /// 0, or the number of a refusal; the rest is then 0.
     pub code: u64,
@@ -14,7 +15,7 @@ pub struct ScheduleReply {
 
 /// All that a step can write of control and of the lent tables: Anchor, the head, the words of one slot's row, and the
 /// word of its mark.
-#[derive(Drop)]
+#[derive(Clone, Copy)]
 pub struct Saved {
     pub anchor: u64,
     pub head: u64,

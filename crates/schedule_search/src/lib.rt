@@ -1,4 +1,6 @@
 //! The search for a schedule: a step, what comes after it, and back.
+#![tactic(auto)]
+
 ghost use mathlib.Core.{Path.◌≡◌, Bool.{cond, false}, List.{[], ◌∷◌}};
 ghost use Rattle.std.specs.Prelude.{◌≤◌, ◌<◌, set};
 ghost use Rattle.model.specs.Tables.{Tables};
@@ -9,7 +11,7 @@ ghost use Rattle.schedule_search.specs.Sought.{seeking, branch, choice, found_of
 mod undo;
 
 /// Whether a schedule was found, its length, and how it ends.
-#[derive(Drop)]
+#[derive(Clone, Copy)]
 pub struct Found {
     pub found: bool,
     pub length: u64,

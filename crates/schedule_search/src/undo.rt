@@ -10,7 +10,7 @@ use rows::moving;
 use schedule_model::Saved;
 
 /// What a step can write, as it was before.
-#[derive(Drop)]
+#[derive(Clone, Copy)]
 pub struct Kept {
     pub row: [u64; layout::RECORD_WORDS],
     pub saved: Saved,

@@ -4,6 +4,8 @@
 //! that list (`specs/History.antt` of `model`). So its contract states the theorems on histories of what ships: demand 3,
 //! that 34 never occurs, that the tasks' counts add up to the failed changes, that every label is accounted for, each by
 //! itself and all in one sum (#114), and that *no slot* is answered only where every slot is in use.
+#![tactic(auto)]
+
 mod reply;
 mod request;
 mod turn;
@@ -20,7 +22,7 @@ const REPLY_WORDS: usize = 3;
 
 /// What the opening answered, and how many requests were carried out.
 #[repr(C)]
-#[derive(Drop)]
+#[derive(Clone, Copy)]
 pub struct ServeReply {
     /// 0, or the number of a refusal; served is then 0.
     pub code: u64,

@@ -2,7 +2,7 @@
 ghost use Rattle.std.specs.Prelude.{◌≡◌, ◌+◌, ◌*◌, ◌≤◌, length, get_or};
 
 /// An operation of a task, its five words.
-#[derive(Drop)]
+#[derive(Clone, Copy)]
 pub struct Request {
     pub task: usize,
     pub operation: u64,

@@ -1,4 +1,6 @@
 //! The order sheet: whether the labels waiting keep its chained rules.
+#![tactic(auto)]
+
 ghost use mathlib.Core.{Path.◌≡◌, List.List};
 ghost use Rattle.std.specs.Prelude.{ℕ};
 ghost use Rattle.model.specs.{Tables.tables_of, Sound.control_sound};

@@ -1,8 +1,9 @@
 //! The order sheet's answer, by value. What it means is in `specs/`.
+#![tactic(auto)]
 
 /// What a sheet is answered, as C sees it.
 #[repr(C)]
-#[derive(Drop)]
+#[derive(Clone, Copy)]
 pub struct SheetReply {
     /// 0, or the number of a refusal; the rest is then 0.
     pub code: u64,

@@ -1,6 +1,8 @@
 //! Saving a queue on one of eight shelves, and returning to it. Control and records are lent as rows of
 //! words. The shelves are lent as flat tables, of which each shelf has an eighth; of controls there is
 //! one a shelf.
+#![tactic(auto)]
+
 mod paste;
 mod refusal;
 mod tables;

@@ -6,7 +6,7 @@ ghost use Rattle.shelf.specs.Pasting.{pasted, on_shelf, put_on, put_back};
 const MOST_ROWS: usize = 1024;
 
 /// Where a stretch of entries begins on a shelf, if it fits there and in the queue's table.
-#[derive(Drop)]
+#[derive(Clone, Copy)]
 struct Stretch {
     fits: bool,
     start: usize,

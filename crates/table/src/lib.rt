@@ -1,5 +1,7 @@
 //! Reads and stores on lent tables, defined for every index: past the end a
 //! read gives 0 and a store does nothing.
+#![tactic(auto)]
+
 ghost use Rattle.std.specs.Prelude.{◌≡◌, ◌<◌, ◌≤◌, length, get_or, set};
 ghost use Rattle.model.specs.{Tables.{marked, with_mark}, Calls.stacked, Route.counted, Lists.zeroed};
 ghost use Rattle.table.specs.{Zeroing.zeroing, Stacking.stacking};

@@ -1,10 +1,11 @@
 //! Threads over one queue, at the grain of single hardware instructions: what a step and a start do with
 //! shared memory, by what instructions. Here are the two structs that these meanings share with the code
 //! (`touch`); the meanings are in `specs`. What is promised of them is in `threads`.
+#![tactic(auto)]
 
 /// What the executive is asked to do with shared memory.
 #[repr(C)]
-#[derive(Drop)]
+#[derive(Clone, Copy)]
 pub struct PlannedTouch {
     /// What: 0 nothing, the call is refused by the number `word`. 1 read Anchor, 2 change it. 3 read a
     /// link word, 4 change it, 5 put a slot into it. 6 read a label and clear the mark. 7 read the head,
@@ -24,7 +25,7 @@ pub struct PlannedTouch {
 }
 
 /// A call to be started.
-#[derive(Drop)]
+#[derive(Clone, Copy)]
 pub struct Start {
     /// 0 a push that names a slot, 1 a pop, any other number a push that names none.
     pub operation: u64,

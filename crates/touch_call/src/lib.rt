@@ -1,6 +1,8 @@
 //! What a whole call of a thread is made of, for C and Rust: its start and its settlements. From the start on the record is
 //! known to be sound, and is not tested again. An archive of its own: what two calls of an archive share is compiled into
 //! neither, and `zc_settle_plan` and `zc_settle_start` of `touch` share a settlement and a start with these.
+#![tactic(auto)]
+
 ghost use Rattle.std.specs.Prelude.{◌≡◌};
 ghost use Rattle.layout.specs.Rows.{call_of, record_of, upper_of};
 ghost use Rattle.threads_model.specs.Split.{plan_unasked, settle_unasked, heard_as};

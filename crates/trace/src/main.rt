@@ -1,4 +1,6 @@
 //! Prints the trace of the run file on standard input.
+#![tactic(auto)]
+
 mod command;
 
 fn main() {

@@ -1,6 +1,8 @@
 //! A field of a run file carried out on lent tables, its lines written into a lent buffer.
 //!
 //! What it does to a run, and what it prints, is `carried` of `specs/Run.antt`.
+#![tactic(auto)]
+
 mod acts;
 
 ghost use mathlib.Core.{Path.◌≡◌, List.List};
@@ -16,7 +18,7 @@ use runfile::Field;
 const FIELD_ROOM: usize = 524288;
 
 /// A run between two fields.
-#[derive(Drop)]
+#[derive(Clone, Copy)]
 pub struct RunState {
     pub control: Control,
     pub opened: bool,

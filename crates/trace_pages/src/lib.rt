@@ -1,6 +1,8 @@
 //! What `replay` makes of a file, written to standard output: each page once, from the front of the buffer.
 //!
 //! No contract says that the system writes what it is lent.
+#![tactic(auto)]
+
 ghost use Rattle.std.specs.Prelude.{ℕ, ◌≤◌, length};
 ghost use mathlib.Core.{Path.◌≡◌, Bool.true, List.List};
 ghost use Rattle.trace_field.specs.Page.{page_of};
@@ -21,7 +23,7 @@ fn flush(out: &[u8], to: usize) -> bool
 }
 
 /// A run after some pages, and whether they were written out.
-#[derive(Drop)]
+#[derive(Clone, Copy)]
 pub struct AfterPages {
     pub state: RunState,
     pub written: bool,

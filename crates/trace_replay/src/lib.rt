@@ -2,6 +2,8 @@
 //!
 //! What a whole file prints is `trace_of` of `specs/Trace.antt`. `begin`, `feed` and `finish` write just
 //! that, in whatever pieces the file comes; reading it and writing the buffer out is left to the program.
+#![tactic(auto)]
+
 ghost use mathlib.Core.{Path.◌≡◌, List.List};
 ghost use Rattle.std.specs.Prelude.{ℕ};
 ghost use Rattle.trace_field.specs.Page.{page_of};

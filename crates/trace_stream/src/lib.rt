@@ -1,6 +1,8 @@
 //! The trace of the run file on standard input, written to standard output as the file comes.
 //!
 //! What the system reads (`refill`) and writes (`pages`) is in no contract; what is between is proved.
+#![tactic(auto)]
+
 mod refill;
 
 ghost use Rattle.std.specs.Prelude.{◌≤◌, ◌<◌, ◌-◌};
@@ -14,7 +16,7 @@ use trace_field::RunState;
 use trace_pages::AfterPages;
 
 // A run after a read: how many bytes the input holds, those from `state.at` on left; whether to read on; whether a read or write failed.
-#[derive(Drop)]
+#[derive(Clone, Copy)]
 struct Round {
     state: RunState,
     have: usize,

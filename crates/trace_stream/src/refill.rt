@@ -5,7 +5,7 @@ ghost use Rattle.std.specs.Prelude.{◌≤◌, ◌<◌, ◌-◌, ◌≡◌};
 ghost use lib.{ListN.{length, take}, Seq.slice};
 
 /// What a buffer holds: how many bytes were left, and how many there are now, no more at the end of the input.
-#[derive(Drop)]
+#[derive(Clone, Copy)]
 pub struct Filled {
     pub left: usize,
     pub have: usize,

@@ -1,4 +1,6 @@
 //! Tells the verdict on the history on standard input, a text. `judge` judges it and has the words.
+#![tactic(auto)]
+
 mod help;
 
 ghost use Rattle.std.specs.Prelude.{◌≤◌, length};
@@ -6,7 +8,7 @@ ghost use Rattle.std.specs.Prelude.{◌≤◌, length};
 use judge::say;
 
 /// What was read: how many bytes there are.
-#[derive(Drop)]
+#[derive(Clone, Copy)]
 pub struct Input {
     pub have: usize,
     pub failed: bool,

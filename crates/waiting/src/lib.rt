@@ -1,4 +1,6 @@
 //! The labels waiting and their slots, written from left to right into lent tables.
+#![tactic(auto)]
+
 ghost use mathlib.Core.{Path.◌≡◌, Bool.false, List.List};
 ghost use Rattle.std.specs.Prelude.{ℕ, ◌<◌};
 ghost use Rattle.model.specs.{Tables.tables_of, Refusals.{first, table_rules}};
@@ -14,7 +16,7 @@ use walk::{Beginning, Tally, Way};
 
 /// The answer as C sees it.
 #[repr(C)]
-#[derive(Drop)]
+#[derive(Clone, Copy)]
 pub struct WaitingReply {
     /// 0, or the number of a refusal.
     pub code: u64,

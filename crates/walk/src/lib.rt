@@ -1,4 +1,6 @@
 //! The walk of the labels waiting: where it begins, where a link leads, and how many labels it meets.
+#![tactic(auto)]
+
 ghost use mathlib.Core.{Path.◌≡◌, Bool.true, List.List};
 ghost use Rattle.std.specs.Prelude.{ℕ, ◌<◌, length, get_or};
 ghost use Rattle.word.specs.Link.{link_of};
@@ -12,7 +14,7 @@ use word::{Anchor, Link};
 const HALF: u64 = 4294967296;
 
 /// The way of a walk: from slot first to slot last among so many.
-#[derive(Drop)]
+#[derive(Clone, Copy)]
 pub struct Way {
     pub slots: u64,
     /// Along Right links, else along Left links.
@@ -43,7 +45,7 @@ fn way_of(c: Control) -> Way
 }
 
 /// Where a walk begins.
-#[derive(Drop)]
+#[derive(Clone, Copy)]
 pub enum Beginning {
     /// Both ends are null: nothing waits.
     Empty,
@@ -87,7 +89,7 @@ fn target(w: Way, lefts: &[u64], rights: &[u64], x: u64) -> u64
 }
 
 /// Where a walk goes on from a slot.
-#[derive(Drop)]
+#[derive(Clone, Copy)]
 pub enum Led {
     /// It was the last.
     Last,
@@ -120,7 +122,7 @@ pub fn follow(links: &[u64], x: u64) -> u64
 }
 
 /// The labels waiting, or that a link is unsound.
-#[derive(Drop)]
+#[derive(Clone, Copy)]
 pub enum Tally {
     Broken,
     Labels(u64),

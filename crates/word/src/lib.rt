@@ -2,11 +2,13 @@
 //!
 //! Fields are cut to their widths by masks and joined by shifts; the contracts
 //! say the same as sums of powers of two, for every argument.
+#![tactic(auto)]
+
 ghost use Rattle.std.specs.Prelude.{◌≡◌};
 ghost use Rattle.word.specs.{Anchor.{pack_anchor, anchor_of, empty_anchor}, Link.{pack_link, link_of}};
 
 /// The queue's two ends, with a status and a tag that every change raises.
-#[derive(Drop)]
+#[derive(Clone, Copy)]
 pub struct Anchor {
     pub tag: u64,
     pub status: u64,
@@ -68,7 +70,7 @@ impl Anchor {
 }
 
 /// A slot's neighbour, with a tag that every change raises.
-#[derive(Drop)]
+#[derive(Clone, Copy)]
 pub struct Link {
     pub tag: u64,
     pub slot: u64,

@@ -5,14 +5,14 @@ use Rattle.audit_model.specs.LentHistory.{verdict_reply}
 use Rattle.audit.proofs.reply.Statement.{statement}
 use Rattle.audit.proofs.reply.Tie as tie
 
-returns : tie.Need-returns
-returns c = sym (ap verdict_reply c.before.v.given.1)
+returns : tie.Need-returns-in-Refused
+returns c = sym (ap verdict_reply c.before.v-1.given.1)
 
-returns-2 : tie.Need-returns-2
-returns-2 c = sym (ap verdict_reply c.before.v2.given.1)
+returns-2 : tie.Need-returns-in-Failed
+returns-2 c = sym (ap verdict_reply c.before.v-in-Failed-1.given.1)
 
-returns-3 : tie.Need-returns-3
-returns-3 c = sym (ap verdict_reply c.enum_told.given.1)
+returns-3 : tie.Need-returns-in-Passed
+returns-3 c = sym (ap verdict_reply c.enum_told-1.given.1)
 
 pub reply_spec : {M : Type 1} → statement M
 reply_spec = tie.close (tie.spec (λ c. search rules) (λ c. search rules) (λ c. search rules) returns returns-2 returns-3)

@@ -1,16 +1,16 @@
 -- A slot, 0, or above the last.
-use borrow.Author.{Tests.{le-leb, lt-leb}, Needs.needs}
+use borrow.Author.{Tests.{le-leb, lt-leb}, Rules.rules}
 use Rattle.decide.specs.Decided.{found13}
 use Rattle.decide.proofs.at13.Statement.{statement}
 use Rattle.decide.proofs.at13.Tie as tie
 
-returns : tie.Need-returns
+returns : tie.Need-returns-then-w-c
 unfolding found13
-returns c = rw (c.settles.ensures, c.before.next.ensures, le-leb _ _ c.before.before.if1.true)
+returns c = rw (c.settles.ensures, c.before.next.ensures, le-leb _ _ c.before.before.if-w-c.true)
 
-returns-2 : tie.Need-returns-2
+returns-2 : tie.Need-returns
 unfolding found13
-returns-2 c = rw (c.refused.ensures, lt-leb _ _ c.before.if1.false)
+returns-2 c = rw (c.refused.ensures, lt-leb _ _ c.before.if-w-c.false)
 
 pub at13_spec : {M : Type 1} → statement M
-at13_spec = tie.close (tie.spec (λ c κs. search needs) (λ _ _. tt) returns (λ _ _. tt) returns-2)
+at13_spec = tie.close (tie.spec (λ c κs. search rules) (λ _ _. tt) returns (λ _ _. tt) returns-2)

@@ -8,12 +8,12 @@ returns c =
     let tag = pushes.before.before in
     rw (
       c.facing.ensures,
-      c.before.choose2.ensures,
-      c.before.before.choose.ensures,
+      c.before.choose-end.ensures,
+      c.before.before.choose-status.ensures,
       pushes.pushing.ensures,
-      tag.raised.ensures,
-      tag.before.far.ensures,
-      tag.before.before.unpack.ensures,
+      tag.raised-tag.ensures,
+      tag.before.far-far.ensures,
+      tag.before.before.unpack-a.ensures,
     )
 
 pub new4_spec : {M : Type 1} → statement M

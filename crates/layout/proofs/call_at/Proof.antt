@@ -8,16 +8,16 @@ use Rattle.layout.proofs.{Rows.{length_records, record_read}, call_at.Statement.
 use borrow.Author.Rules.{rules}
 use Rattle.layout.proofs.call_at.Tie as tie
 
-returns : tie.Need-returns
+returns : tie.Need-returns-then-task-rows
 unfolding record_of
 returns c = c.call_of.ensures ∙ ap (λ (r : Record). r.call) (record_read _ _)
 
-returns-2 : tie.Need-returns-2
+returns-2 : tie.Need-returns-else-task-rows
 unfolding record_of call_of
 returns-2 c =
     let rows = c.before.before.args.rows.now in
-    let past = c.before.if1.false in
-    c.call_of2.ensures ∙ ap (λ (r : Record). r.call) (sym (get_or-eq_default (records_of rows) _ (omega (arith, length_records rows))))
+    let past = c.before.if-task-rows.false in
+    c.call_of-else-task-rows.ensures ∙ ap (λ (r : Record). r.call) (sym (get_or-eq_default (records_of rows) _ (omega (arith, length_records rows))))
 
 pub call_at_spec : {M : Type 1} → statement M
 call_at_spec =

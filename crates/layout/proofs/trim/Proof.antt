@@ -9,24 +9,24 @@ use Rattle.layout.proofs.trim.Statement.{statement}
 use borrow.Author.Rules.{rules}
 use Rattle.layout.proofs.trim.Tie as tie
 
-returns : tie.Need-returns
+returns : tie.Need-returns-then-task-rows
 unfolding record_of
 returns c =
     let call = c.before in
     let a = call.before.before.before.args in
-    let row = c.record_row.ensures in (
+    let row = c.record_row-row.ensures in (
       record_put _ _ _
           ∙ ap (set (records_of a.rows.now) a.task)
-          (row.0 ∙ ap (λ (r : Call). counting r (record_of (get_or a.rows.now a.task [])).retries) call.call_of.ensures ∙ record_read
+          (row.0 ∙ ap (λ (r : Call). counting r (record_of (get_or a.rows.now a.task [])).retries) call.call_of-r.ensures ∙ record_read
           a.rows.now a.task)
           ∙ set-get_or (records_of a.rows.now) a.task unused,
       upper-put _ _ _ ∙ ap (set (uppers_of a.rows.now) a.task) row.1,
     )
 
-returns-2 : tie.Need-returns-2
+returns-2 : tie.Need-returns-else-task-rows
 returns-2 c =
     let rows = c.before.args.rows.now in
-    let past = c.if1.false in
+    let past = c.if-task-rows.false in
     (refl, sym (set_out (uppers_of rows) _ _ (omega (arith, length_uppers rows))))
 
 pub trim_spec : {M : Type 1} → statement M

@@ -10,22 +10,22 @@ use Rattle.layout.proofs.zero_first.Statement.{statement}
 use borrow.Author.Rules.{rules}
 use Rattle.layout.proofs.zero_first.Tie as tie
 
-abbrev invariant-loop : tie.invariant-loop
+abbrev invariant-loop : tie.invariant-loop-i
 invariant-loop rows₀ n i₀ rows i =
     (i ≤ n) × (length rows ≡ length rows₀)
     × (records_of rows ≡ zeroed i unused (records_of rows₀)) × (uppers_of rows ≡ zeroed i 0 (uppers_of rows₀))
 
-abbrev decreases-loop : tie.decreases-loop
+abbrev decreases-loop : tie.decreases-loop-i
 decreases-loop rows₀ n i₀ rows i = n - i
 
-inside : tie.Need-slice-set-from-rows invariant-loop decreases-loop
-inside c = omega (arith, c.loop-test.true, c.before.loop.invariant.1, c.before.before.requires)
+inside : tie.Need-bounds-rows-i invariant-loop decreases-loop
+inside c = omega (arith, c.loop-i-test.true, c.before.loop-i.invariant.1, c.before.before.requires)
 
-loop-again : tie.Need-loop-preserved invariant-loop decreases-loop
+loop-again : tie.Need-loop-i-preserved invariant-loop decreases-loop
 unfolding call_of record_of upper_of
 loop-again c =
-    let less = c.loop-test.true in
-    let turn = c.before.loop in
+    let less = c.loop-i-test.true in
+    let turn = c.before.loop-i in
     let rows₀ = c.before.before.args.rows.now in
     let enough = c.before.before.requires in
     let there : turn.i < length (records_of rows₀) = omega (arith, length_records rows₀) in
@@ -38,12 +38,12 @@ loop-again c =
 
 returns : tie.Need-returns invariant-loop decreases-loop
 returns c =
-    let past = c.loop-test.false in
-    let below = c.before.loop.invariant.0 in
+    let past = c.loop-i-test.false in
+    let below = c.before.loop-i.invariant.0 in
     let rows₀ = c.before.before.args.rows.now in
-    let e : c.before.loop.i ≡ c.before.before.args.n = omega arith in (
-      c.before.loop.invariant.2 ∙ ap (λ (k : ℕ). zeroed k unused (records_of rows₀)) e,
-      c.before.loop.invariant.3 ∙ ap (λ (k : ℕ). zeroed k 0 (uppers_of rows₀)) e,
+    let e : c.before.loop-i.i ≡ c.before.before.args.n = omega arith in (
+      c.before.loop-i.invariant.2 ∙ ap (λ (k : ℕ). zeroed k unused (records_of rows₀)) e,
+      c.before.loop-i.invariant.3 ∙ ap (λ (k : ℕ). zeroed k 0 (uppers_of rows₀)) e,
     )
 
 pub zero_first_spec : {M : Type 1} → statement M
@@ -58,5 +58,5 @@ zero_first_spec =
     (λ c. search rules)
     (λ c. search rules)
     loop-again
-    (λ c. c.before.loop.invariant.1)
+    (λ c. c.before.loop-i.invariant.1)
     returns)

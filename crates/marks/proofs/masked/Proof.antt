@@ -3,7 +3,7 @@ use mathlib.Core.{Path.{◌≡◌, ap, ◌∙◌, sym}, Logic.{◌≢◌, ⊎_el
 use Prim.Native.Nat.{ℕ, ◌+◌, ◌-◌, ◌*◌, ◌/◌, ◌%◌, ◌^◌}
 use native.Mathlib.{Nat.mod-eq_of_lt, Omega.arith}
 use lib.{Pow.{high, ones_split, ones_lt}, Bits.{bit_and, and_mask, and_high}}
-use borrow.Author.{Needs.needs, Tests.{eq-eqb, ne_eqb}}
+use borrow.Author.{Rules.rules, Tests.{eq-eqb, ne_eqb}}
 use Rattle.marks.specs.Masked.{up_to_last}
 use Rattle.marks.proofs.masked.Statement.{statement}
 use Rattle.marks.proofs.masked.Tie as tie
@@ -18,25 +18,25 @@ keep w r e =
     ap (bit_and w) (ap (λ (x : ℕ). (2 ^ x - 1) / 2 ^ (63 - r)) (sym e) ∙ ones_shr (r + 1) (63 - r)) ∙ and_mask w (r + 1)
 
 -- After the first test.
-upper : (c : tie.Joined1) → (let a = c.before.args in c.if1.m ≡ up_to_last a.w a.k a.slots)
+upper : (c : tie.Joined-k-slots) → (let a = c.before.args in c.if-k-slots.m ≡ up_to_last a.w a.k a.slots)
 upper c =
     let a = c.before.args in
     ⊎_elim
     (λ t. rw (eq-eqb _ _ t.0.taken) (t.1 ∙ keep a.w (a.slots % 64) (omega arith)))
     (λ t. rw (ne_eqb _ _ t.0.left) t.1)
-    c.if1.branch
+    c.if-k-slots.branch
 
-returns : tie.Need-returns
+returns : tie.Need-returns-then-k-eq0
 returns c =
-    let m = c.before.before.if1.m in
+    let m = c.before.before.if-k-slots.m in
     let first : c.before.before.before.args.k ≡ 0 = omega arith in
     rw (eq-eqb _ 0 first)
     (and_high m 63 1 ∙ ap (λ (x : ℕ). x * 2) (mod-eq_of_lt (omega arith)) ∙ ap (λ (x : ℕ). x / 2 * 2) (upper c.before.before))
 
-returns-2 : tie.Need-returns-2
+returns-2 : tie.Need-returns-else-k-eq0
 returns-2 c =
     let later : c.before.before.args.k ≢ 0 = λ z. omega arith in
     rw (ne_eqb _ 0 later) (upper c.before)
 
 pub masked_spec : {M : Type 1} → statement M
-masked_spec = tie.close (tie.spec (λ c. search needs) (λ c. search needs) returns returns-2)
+masked_spec = tie.close (tie.spec (λ c. search rules) (λ c. search rules) returns returns-2)

@@ -21,36 +21,36 @@ module _ (m : tie.After-masked) where
   few : ones m.masked.result ≤ 63
   few = omega (arith, first, marks_le given.args.marks.now (min 63 given.args.slots))
 
-returns : tie.Need-returns
+returns : tie.Need-returns-then-slots-lt64
 unfolding taken_slots
 returns c =
     let a = (given c.before).args in
     let e : min 63 a.slots ≡ a.slots = omega arith in
     first c.before ∙ ap (marks a.marks.now) e
 
-before_last_requires : tie.Need-before_last-requires
+before_last_requires : tie.Need-before_last-n-requires
 unfolding taken_slots
 before_last_requires c κs =
     let a = (given c.before).args in
     let e : min 63 a.slots ≡ 63 = omega arith in
     (omega arith, first c.before ∙ ap (marks a.marks.now) e)
 
-module _ (m : tie.After-masked2) where
+module _ (m : tie.After-masked-2) where
   abbrev lent : tie.Start
   lent = given m.before.before.before.before
 
-  total : m.before.before.before_last.result + ones m.masked2.result ≡ marks lent.args.marks.now lent.args.slots
+  total : m.before.before.before_last-n.result + ones m.masked-2.result ≡ marks lent.args.marks.now lent.args.slots
   unfolding taken_slots
   total =
       let a = lent.args in
-      let w = m.masked2.ensures ∙ ap (λ (x : ℕ). masked_word x (a.slots / 64) a.slots) m.before.word_at2.ensures in
-      (λ i. m.before.before.before_last.ensures i + ones (w i))
-      ∙ last_word a.marks.now a.slots (omega arith) (omega (arith, m.before.word_at2.ensures))
+      let w = m.masked-2.ensures ∙ ap (λ (x : ℕ). masked_word x (a.slots / 64) a.slots) m.before.word_at-2.ensures in
+      (λ i. m.before.before.before_last-n.ensures i + ones (w i))
+      ∙ last_word a.marks.now a.slots (omega arith) (omega (arith, m.before.word_at-2.ensures))
 
-  room : m.before.before.before_last.result + ones m.masked2.result ≤ lent.args.slots
+  room : m.before.before.before_last-n.result + ones m.masked-2.result ≤ lent.args.slots
   room = omega (arith, total, marks_le lent.args.marks.now lent.args.slots)
 
-returns-2 : tie.Need-returns-2
+returns-2 : tie.Need-returns-then-slots-lt64
 unfolding taken_slots
 returns-2 c = total c
 

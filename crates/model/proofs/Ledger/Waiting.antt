@@ -42,10 +42,10 @@ module _ (q : Tables) (fine : LinksFine q) (b : Bool) where
   along-is e (f ∷ l) (suc n) c u v r h =
       let g = far_cons e.slot f.slot (slots l) 0 in
       let ih =
-          subst
-          (λ (y : ℕ). along q.control.slots (cond b q.rights q.lefts) q.labels y n f.slot ≡ entries (f ∷ l))
-          (sym g)
-          (along-is f l n c.1 u.1 v.1 r.1 (omega arith)) in
+      subst
+      (λ (y : ℕ). along q.control.slots (cond b q.rights q.lefts) q.labels y n f.slot ≡ entries (f ∷ l))
+      (sym g)
+      (along-is f l n c.1 u.1 v.1 r.1 (omega arith)) in
       rw (
         real_test _ _ r.0.0 r.0.1,
         g,

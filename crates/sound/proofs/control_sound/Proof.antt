@@ -8,7 +8,7 @@ returns : tie.Need-returns
 unfolding control_sound
 returns c =
     let calls = c.before in
-    simp (calls.anchor_sound.ensures, calls.before.from12.ensures, calls.before.before.from1.ensures, and_assoc)
+    simp (calls.anchor_sound-anchor.ensures, calls.before.from1-slots.ensures, calls.before.before.from1-tasks.ensures, and_assoc)
 
 pub control_sound_spec : {M : Type 1} → statement M
 control_sound_spec = tie.close (tie.spec (λ _ _. tt) (λ _ _. tt) (λ _ _. tt) returns)

@@ -9,35 +9,35 @@ use Rattle.sound.proofs.deque_seen.Statement.{statement}
 use Rattle.sound.proofs.deque_seen.Tie as tie
 
 -- What is shown of the Anchor unpacked is shown of the word.
-module _ (u : tie.After-unpack) (b : Bool) where
+module _ (u : tie.After-unpack-a) (b : Bool) where
   of_word : (let r = u.before.args.r in
-      b ≡ deque_seen u.before.args.slots r.place u.unpack.result → b ≡ deque_seen u.before.args.slots r.place (anchor_of r.seen))
-  of_word h = h ∙ ap (deque_seen u.before.args.slots u.before.args.r.place) u.unpack.ensures
+      b ≡ deque_seen u.before.args.slots r.place u.unpack-a.result → b ≡ deque_seen u.before.args.slots r.place (anchor_of r.seen))
+  of_word h = h ∙ ap (deque_seen u.before.args.slots u.before.args.r.place) u.unpack-a.ensures
 
-returns : tie.Need-returns
+returns : tie.Need-returns-then-r-ge5
 returns c =
     let left = c.before.before in
-    of_word left.before.before _ (null_unstable _ _ _ (sym left.before.from1.ensures ∙ not-true _ left.if1.true) c.if2.true)
+    of_word left.before.before _ (null_unstable _ _ _ (sym left.before.from1.ensures ∙ left.if-not-from1.true) c.if-r-ge5.true)
 
-returns-2 : tie.Need-returns-2
+returns-2 : tie.Need-returns-then-not-from1
 returns-2 c =
     let soon = c.before in
     let left = soon.before.before in
     let u = left.before.before in
-    of_word u _ (null_soon _ _ _ _ u.unpack.ensures (sym left.before.from1.ensures ∙ not-true _ left.if1.true) soon.if2.false)
+    of_word u _ (null_soon _ _ _ _ u.unpack-a.ensures (sym left.before.from1.ensures ∙ left.if-not-from1.true) soon.if-r-ge5.false)
 
 -- The left end is a slot.
-module _ (past : tie.Else1) where
-  abbrev word : tie.After-unpack
+module _ (past : tie.Else-not-from1) where
+  abbrev word : tie.After-unpack-a
   word = past.before.before
 
-  first : from1 word.before.args.slots word.unpack.result.left ≡ true
-  first = sym past.before.from1.ensures ∙ not-false _ past.if1.left
+  first : from1 word.before.args.slots word.unpack-a.result.left ≡ true
+  first = sym past.before.from1.ensures ∙ past.if-not-from1.false
 
-returns-3 : tie.Need-returns-3
-returns-3 c = let past = c.before.before in of_word (word past) _ (no_status _ _ _ (first past) c.if3.true)
+returns-3 : tie.Need-returns-then-a-eq3
+returns-3 c = let past = c.before.before in of_word (word past) _ (no_status _ _ _ (first past) c.if-a-eq3.true)
 
-returns-4 : tie.Need-returns-4
+returns-4 : tie.Need-returns-then-r-ge5-2
 returns-4 c =
     let called = c.before in
     let from5 = called.before.before in
@@ -45,27 +45,27 @@ returns-4 c =
     let past = used.before.before in
     let u = word past in
     of_word u _
-    (rw called.from12.ensures
-    (late u.before.args.slots u.before.args.r.place u.unpack.result (first past) u.before.args.r.seen u.unpack.ensures
-    used.if3.false from5.if4.true))
+    (rw called.from1-then-r-ge5-2.ensures
+    (late u.before.args.slots u.before.args.r.place u.unpack-a.result (first past) u.before.args.r.seen u.unpack-a.ensures
+    used.if-a-eq3.false from5.if-r-ge5-2.true))
 
-returns-5 : tie.Need-returns-5
+returns-5 : tie.Need-returns-then-a
 returns-5 c =
     let same = c.before in
     let soon = same.before.before in
     let used = soon.before.before in
     let past = used.before.before in
-    of_word (word past) _ (equal_soon _ _ _ (first past) same.if5.true soon.if4.false)
+    of_word (word past) _ (equal_soon _ _ _ (first past) same.if-a.true soon.if-r-ge5-2.false)
 
-returns-6 : tie.Need-returns-6
+returns-6 : tie.Need-returns
 returns-6 c =
     let other = c.before in
     let soon = other.before.before in
     let used = soon.before.before in
     let past = used.before.before in
     of_word (word past) _
-    (c.from13.ensures
-    ∙ apart_soon _ _ _ (first past) _ (word past).unpack.ensures used.if3.false other.if5.false soon.if4.false)
+    (c.from1-2.ensures
+    ∙ apart_soon _ _ _ (first past) _ (word past).unpack-a.ensures used.if-a-eq3.false other.if-a.false soon.if-r-ge5-2.false)
 
 pub deque_seen_spec : {M : Type 1} → statement M
 deque_seen_spec =

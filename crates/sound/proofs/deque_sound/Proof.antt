@@ -5,29 +5,29 @@ use Rattle.sound.specs.Records.{deque_sound}
 use Rattle.sound.proofs.deque_sound.Statement.{statement}
 use Rattle.sound.proofs.deque_sound.Tie as tie
 
-returns : tie.Need-returns
+returns : tie.Need-returns-then-r-gt1
 unfolding deque_sound
 returns c =
-    rw (lt-leb _ _ c.if1.true)
+    rw (lt-leb _ _ c.if-r-gt1.true)
 
-returns-2 : tie.Need-returns-2
+returns-2 : tie.Need-returns-then-not-read_sound
 unfolding deque_sound
 returns-2 c =
     let side = c.before.before in
-    rw (le-leb _ _ side.if1.false, sym c.before.read_sound.ensures ∙ not-true _ c.if2.true)
+    rw (le-leb _ _ side.if-r-gt1.false, sym c.before.read_sound.ensures ∙ c.if-not-read_sound.true)
 
-returns-3 : tie.Need-returns-3
+returns-3 : tie.Need-returns-then-not-deque_call
 unfolding deque_sound
 returns-3 c =
     let reads = c.before.before in
     let side = reads.before.before in
     rw (
-      le-leb _ _ side.if1.false,
-      sym reads.before.read_sound.ensures ∙ not-false _ reads.if2.false,
-      sym c.before.deque_call.ensures ∙ not-true _ c.if3.true,
+      le-leb _ _ side.if-r-gt1.false,
+      sym reads.before.read_sound.ensures ∙ reads.if-not-read_sound.false,
+      sym c.before.deque_call.ensures ∙ c.if-not-deque_call.true,
     )
 
-returns-4 : tie.Need-returns-4
+returns-4 : tie.Need-returns
 unfolding deque_sound
 returns-4 c =
     let call = c.before in
@@ -35,9 +35,9 @@ returns-4 c =
     let side = reads.before.before in
     c.deque_seen.ensures
     ∙ (rw (
-      le-leb _ _ side.if1.false,
-      sym reads.before.read_sound.ensures ∙ not-false _ reads.if2.false,
-      sym call.before.deque_call.ensures ∙ not-false _ call.if3.false,
+      le-leb _ _ side.if-r-gt1.false,
+      sym reads.before.read_sound.ensures ∙ reads.if-not-read_sound.false,
+      sym call.before.deque_call.ensures ∙ call.if-not-deque_call.false,
     ))
 
 pub deque_sound_spec : {M : Type 1} → statement M

@@ -2,20 +2,20 @@
 use Rattle.sound.proofs.{Links.{one_beyond, many_slots, few_slots}, read_sound.Statement.statement}
 use Rattle.sound.proofs.read_sound.Tie as tie
 
-returns : tie.Need-returns
-returns c = let m = c.before.most.ensures in one_beyond _ _ _ _ m.0 m.1 m.2 c.if1.true
+returns : tie.Need-returns-then-slots-most
+returns c = let m = c.before.most.ensures in one_beyond _ _ _ _ m.0 m.1 m.2 c.if-slots-most.true
 
-returns-2 : tie.Need-returns-2
+returns-2 : tie.Need-returns-then-slots-gt-SLOT_MASK
 returns-2 c =
     let near = c.before in
     let m = near.before.most.ensures in
-    many_slots _ _ _ _ m.0 m.1 near.if1.false c.if2.true
+    many_slots _ _ _ _ m.0 m.1 near.if-slots-most.false c.if-slots-gt-SLOT_MASK.true
 
-returns-3 : tie.Need-returns-3
+returns-3 : tie.Need-returns
 returns-3 c =
     let near = c.before in
     let m = near.before.most.ensures in
-    few_slots _ _ _ _ m.0 m.1 near.if1.false c.if2.false
+    few_slots _ _ _ _ m.0 m.1 near.if-slots-most.false c.if-slots-gt-SLOT_MASK.false
 
 pub read_sound_spec : {M : Type 1} → statement M
 read_sound_spec = tie.close (tie.spec (λ _ _. tt) returns returns-2 returns-3)

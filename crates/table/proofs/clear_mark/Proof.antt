@@ -7,14 +7,14 @@ use lib.{ListN.{get_or, set}, Seq.set_out}
 use Rattle.table.proofs.{Bit.and_bit, clear_mark.Statement.statement}
 use Rattle.table.proofs.clear_mark.Tie as tie
 
-returns : tie.Need-returns
+returns : tie.Need-returns-then-k-marks
 returns c =
     let ws = c.before.before.args.marks.now in
     let n = c.before.before.args.n in
-    ap (set ws (n / 64)) (and_bit 64 (get_or ws (n / 64) 0) (n % 64) (omega arith) (c.slice-known.given (n / 64)).fits)
+    ap (set ws (n / 64)) (and_bit 64 (get_or ws (n / 64) 0) (n % 64) (omega arith) (c.slice_known-1.given (n / 64)).fits)
 
-returns-2 : tie.Need-returns-2
-returns-2 c = let a = c.before.args in sym (set_out a.marks.now (a.n / 64) _ c.if1.false)
+returns-2 : tie.Need-returns-else-k-marks
+returns-2 c = let a = c.before.args in sym (set_out a.marks.now (a.n / 64) _ c.if-k-marks.false)
 
 pub clear_mark_spec : {M : Type 1} → statement M
 clear_mark_spec =

@@ -7,21 +7,21 @@ use Rattle.model.specs.Lists.{zeroed}
 use Rattle.table.proofs.{Filling.{Filled, filled_next}, fill_labels.Statement.statement}
 use Rattle.table.proofs.fill_labels.Tie as tie
 
-abbrev invariant-loop : tie.invariant-loop
+abbrev invariant-loop : tie.invariant-loop-i
 invariant-loop t₀ n i₀ t i = Filled t₀ n t i
 
-abbrev decreases-loop : tie.decreases-loop
+abbrev decreases-loop : tie.decreases-loop-i
 decreases-loop t₀ n i₀ t i = n - i
 
-loop-again : tie.Need-loop-preserved invariant-loop decreases-loop
+loop-again : tie.Need-loop-i-preserved invariant-loop decreases-loop
 loop-again c =
     let a = c.before.before.args in
-    filled_next a.t.now a.n c.before.loop.t c.before.loop.i (omega arith) (omega arith) c.before.loop.invariant
+    filled_next a.t.now a.n c.before.loop-i.t c.before.loop-i.i (omega arith) (omega arith) c.before.loop-i.invariant
 
 returns : tie.Need-returns invariant-loop decreases-loop
 returns c =
-    let e : c.before.loop.i ≡ c.before.before.args.n = omega arith in
-    c.before.loop.invariant.1.1 ∙ ap (λ (k : ℕ). zeroed k 0 c.before.before.args.t.now) e
+    let e : c.before.loop-i.i ≡ c.before.before.args.n = omega arith in
+    c.before.loop-i.invariant.1.1 ∙ ap (λ (k : ℕ). zeroed k 0 c.before.before.args.t.now) e
 
 pub fill_labels_spec : {M : Type 1} → statement M
 fill_labels_spec =

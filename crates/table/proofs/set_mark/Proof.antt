@@ -7,14 +7,14 @@ use lib.{ListN.{get_or, set}, Seq.set_out}
 use Rattle.table.proofs.{Bit.or_bit, set_mark.Statement.statement}
 use Rattle.table.proofs.set_mark.Tie as tie
 
-returns : tie.Need-returns
+returns : tie.Need-returns-then-k-marks
 returns c =
     let ws = c.before.before.args.marks.now in
     let n = c.before.before.args.n in
     ap (set ws (n / 64)) (or_bit 64 (get_or ws (n / 64) 0) (n % 64) (omega arith))
 
-returns-2 : tie.Need-returns-2
-returns-2 c = let a = c.before.args in sym (set_out a.marks.now (a.n / 64) _ c.if1.false)
+returns-2 : tie.Need-returns-else-k-marks
+returns-2 c = let a = c.before.args in sym (set_out a.marks.now (a.n / 64) _ c.if-k-marks.false)
 
 pub set_mark_spec : {M : Type 1} → statement M
 set_mark_spec =

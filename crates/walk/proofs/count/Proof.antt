@@ -14,71 +14,71 @@ record Kept (w : Way) (lefts rights : List ℕ) (n x : ℕ) : Type 0 where
   at : from1 w.slots x ≡ true
   counts : (labels : List ℕ) → comes one_more w lefts rights labels n n x ≡ over one_more 0 (ahead w lefts rights labels)
 
-abbrev invariant-loop : tie.invariant-loop
+abbrev invariant-loop : tie.invariant-loop-n
 invariant-loop w lefts rights n₀ x₀ n x = Kept w lefts rights n x
 
-abbrev decreases-loop : tie.decreases-loop
+abbrev decreases-loop : tie.decreases-loop-n
 decreases-loop w lefts rights n₀ x₀ n x = w.slots - n
 
-loop-holds : tie.Need-loop-init invariant-loop decreases-loop
+loop-holds : tie.Need-loop-n-init invariant-loop decreases-loop
 loop-holds c =
     let s = c.before.before in
     let a = s.args in
     record { few = omega arith; at = s.requires; counts = λ labels. begins one_more a.w a.lefts.now a.rights.now labels 0 }
 
 -- In the loop: where a turn began, and what the call was given.
-abbrev given : tie.At-loop invariant-loop decreases-loop → tie.Start invariant-loop decreases-loop
+abbrev given : tie.At-loop-n invariant-loop decreases-loop → tie.Start invariant-loop decreases-loop
 given l = l.before.before.before
 
-module _ (l : tie.At-loop invariant-loop decreases-loop) (labels : List ℕ) where
+module _ (l : tie.At-loop-n invariant-loop decreases-loop) (labels : List ℕ) where
   abbrev a : tie.Start invariant-loop decreases-loop
   a = given l
 
-  told : (r : Made ℕ) → comes one_more a.args.w a.args.lefts.now a.args.rights.now labels l.loop.n l.loop.n l.loop.x ≡ r
+  told : (r : Made ℕ) → comes one_more a.args.w a.args.lefts.now a.args.rights.now labels l.loop-n.n l.loop-n.n l.loop-n.x ≡ r
       → tallied r ≡ counted (ahead a.args.w a.args.lefts.now a.args.rights.now labels)
-  told r e = ap tallied (sym e ∙ l.loop.inv.counts labels) ∙ tally_is (ahead a.args.w a.args.lefts.now a.args.rights.now labels)
+  told r e = ap tallied (sym e ∙ l.loop-n.invariant.counts labels) ∙ tally_is (ahead a.args.w a.args.lefts.now a.args.rights.now labels)
 
 -- A turn, by where the walk goes on.
-module _ (v : tie.After-leads invariant-loop decreases-loop) where
-  abbrev test : tie.Then1 invariant-loop decreases-loop
+module _ (v : tie.After-leads-next invariant-loop decreases-loop) where
+  abbrev test : tie.In-loop-n invariant-loop decreases-loop
   test = v.before
 
-  abbrev turn : tie.At-loop invariant-loop decreases-loop
+  abbrev turn : tie.At-loop-n invariant-loop decreases-loop
   turn = test.before.before
 
-  onwards : (r : Led) → v.leads.result ≡ r → (labels : List ℕ)
-      → (let a = (given turn).args in let n = turn.loop.n in let x = turn.loop.x in
+  onwards : (r : Led) → v.leads-next.result ≡ r → (labels : List ℕ)
+      → (let a = (given turn).args in let n = turn.loop-n.n in let x = turn.loop-n.x in
       comes one_more a.w a.lefts.now a.rights.now labels n n x
-      ≡ turned one_more a.w a.lefts.now a.rights.now labels n x n test.if1.taken turn.loop.inv.at r)
+      ≡ turned one_more a.w a.lefts.now a.rights.now labels n x n test.loop-n-test.true turn.loop-n.invariant.at r)
   onwards r e labels =
       let a = (given turn).args in
-      let n = turn.loop.n in
-      turns one_more a.w a.lefts.now a.rights.now labels n turn.loop.x n test.if1.taken turn.loop.inv.at r
-      (sym e ∙ v.leads.ensures)
+      let n = turn.loop-n.n in
+      turns one_more a.w a.lefts.now a.rights.now labels n turn.loop-n.x n test.loop-n-test.true turn.loop-n.invariant.at r
+      (sym e ∙ v.leads-next.ensures)
 
-returns : tie.Need-returns invariant-loop decreases-loop
-returns c labels = let v = c.before.before in told (turn v) labels _ (onwards v _ c.enum_told.given.1 labels)
+returns : tie.Need-returns-in-Last invariant-loop decreases-loop
+returns c labels = let v = c.before.before in told (turn v) labels _ (onwards v _ c.enum_told-1.given.1 labels)
 
-returns-2 : tie.Need-returns-2 invariant-loop decreases-loop
-returns-2 c labels = let v = c.before.before in told (turn v) labels _ (onwards v _ c.enum-told2.given.1 labels)
+returns-2 : tie.Need-returns-in-Broken invariant-loop decreases-loop
+returns-2 c labels = let v = c.before.before in told (turn v) labels _ (onwards v _ c.enum_told-in-Broken-1.given.1 labels)
 
-loop-again : tie.Need-loop-preserved invariant-loop decreases-loop
+loop-again : tie.Need-loop-n-preserved invariant-loop decreases-loop
 loop-again c =
     let v = c.before.before.before in
     let l = turn v in
     let a = (given l).args in
-    let to = c.before.next.given in
+    let to = c.before.next-1.given in
     record {
-      few = omega (arith, (test v).if1.true);
-      at = led_to a.w a.lefts.now a.rights.now [] l.loop.x to.0.0 (sym to.1 ∙ v.leads.ensures);
-      counts = λ labels. sym (onwards v _ to.1 labels) ∙ l.loop.inv.counts labels;
+      few = omega (arith, (test v).loop-n-test.true);
+      at = led_to a.w a.lefts.now a.rights.now [] l.loop-n.x to.0.0 (sym to.1 ∙ v.leads-next.ensures);
+      counts = λ labels. sym (onwards v _ to.1 labels) ∙ l.loop-n.invariant.counts labels;
     }
 
-returns-3 : tie.Need-returns-3 invariant-loop decreases-loop
+returns-3 : tie.Need-returns invariant-loop decreases-loop
 returns-3 c labels =
     let l = c.before.before in
     let a = (given l).args in
-    told l labels _ (full one_more a.w a.lefts.now a.rights.now labels l.loop.n l.loop.x l.loop.n (omega (arith, c.if1.false)))
+    told l labels _ (full one_more a.w a.lefts.now a.rights.now labels l.loop-n.n l.loop-n.x l.loop-n.n (omega (arith, c.loop-n-test.false)))
 
 pub count_spec : {M : Type 1} → statement M
 count_spec =

@@ -3,24 +3,24 @@ use mathlib.Core.Path.{◌≡◌, sym, ap, ◌∙◌}
 use Prim.Native.Nat.{ℕ, ◌%◌, ◌^◌}
 use lib.ListN.{get_or}
 use borrow.Author.Tests.{not-true, not-false}
-use Rattle.model.specs.Sound.{linkSound}
-use Rattle.walk.specs.Ways.{linksOn, leadsTo}
-use Rattle.walk.proofs.{Along.half-slot, target.Statement.statement}
+use Rattle.model.specs.Sound.{link_sound}
+use Rattle.walk.specs.Ways.{links_on, leads_to}
+use Rattle.walk.proofs.{Along.half_slot, target.Statement.statement}
 use Rattle.walk.proofs.target.Tie as tie
 
-judged : (s : tie.After-link-sound) → (let a = s.before.before.before.before.args in
-    linkSound a.w.slots (get_or (linksOn a.w a.lefts.now a.rights.now) a.x 0) ≡ s.link-sound.result)
-judged s = ap (linkSound s.before.before.before.before.args.w.slots) (sym s.before.link_at.ensures) ∙ sym s.link-sound.ensures
+judged : (s : tie.After-link_sound) → (let a = s.before.before.before.before.args in
+    link_sound a.w.slots (get_or (links_on a.w a.lefts.now a.rights.now) a.x 0) ≡ s.link_sound.result)
+judged s = ap (link_sound s.before.before.before.before.args.w.slots) (sym s.before.link_at-word.ensures) ∙ sym s.link_sound.ensures
 
-returns : tie.Need-returns
-unfolding leadsTo
-returns c = rw (judged c.before ∙ not-true _ c.if1.true)
+returns : tie.Need-returns-then-not-link_sound
+unfolding leads_to
+returns c = rw (judged c.before ∙ c.if-not-link_sound.true)
 
-returns-2 : tie.Need-returns-2
-unfolding leadsTo
+returns-2 : tie.Need-returns
+unfolding leads_to
 returns-2 c =
-    let fine = judged c.before ∙ not-false _ c.if1.false in
-    rw fine (ap (λ (l : ℕ). l % 2 ^ 32) c.before.before.link_at.ensures ∙ half-slot _ _ fine)
+    let fine = judged c.before ∙ c.if-not-link_sound.false in
+    rw fine (ap (λ (l : ℕ). l % 2 ^ 32) c.before.before.link_at-word.ensures ∙ half_slot _ _ fine)
 
 pub target-spec : {M : Type 1} → statement M
 target-spec = tie.close (tie.spec (λ _ _. tt) (λ _ _. tt) returns returns-2)

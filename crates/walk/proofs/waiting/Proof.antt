@@ -8,34 +8,34 @@ use Rattle.walk.proofs.{Along.{waits, begins-at}, Counting.either_way, waiting.S
 use Rattle.walk.proofs.waiting.Tie as tie
 
 -- The tables, whatever their labels, marks and next rows.
-module _ (b : tie.After-begin) (labels marks next : List ℕ) where
+module _ (b : tie.After-begin-start) (labels marks next : List ℕ) where
   abbrev q : Tables
   q = let a = b.before.before.before.args in tables_of a.c a.lefts.now a.rights.now labels marks next
 
-  begun : (r : Beginning) → b.begin.result ≡ r → counted (walk_by r q.lefts q.rights labels) ≡ counted (contents q)
-  begun r e = ap counted (sym (waits q r (sym e ∙ b.begin.ensures)))
+  begun : (r : Beginning) → b.begin-start.result ≡ r → counted (walk_by r q.lefts q.rights labels) ≡ counted (contents q)
+  begun r e = ap counted (sym (waits q r (sym e ∙ b.begin-start.ensures)))
 
-returns : tie.Need-returns
-returns c labels marks next = begun c.before.before labels marks next _ c.enum_told.given.1
+returns : tie.Need-returns-in-Empty
+returns c labels marks next = begun c.before.before labels marks next _ c.enum_told-1.given.1
 
-returns-2 : tie.Need-returns-2
-returns-2 c labels marks next = begun c.before.before labels marks next _ c.enum-told2.given.1
+returns-2 : tie.Need-returns-in-Unsound
+returns-2 c labels marks next = begun c.before.before labels marks next _ c.enum_told-in-Unsound-1.given.1
 
-returns-3 : tie.Need-returns-3
+returns-3 : tie.Need-returns-in-At
 returns-3 c labels marks next =
     let k = c.before.before in
     let b = k.before.before in
-    let w = k.start.given.0.0 in
+    let w = k.start-1.given.0.0 in
     let tables = q b labels marks next in
     c.count.ensures labels
     ∙ sym (either_way (cond w.rightward 0 1) (ahead w tables.lefts tables.rights labels))
-    ∙ begun b labels marks next _ k.start.given.1
+    ∙ begun b labels marks next _ k.start-1.given.1
 
 count_requires : tie.Need-count-requires
 count_requires c κs =
     let k = c.before in
     let b = k.before.before in
-    (begins-at b.before.before.before.args.c k.start.given.0.0 (sym k.start.given.1 ∙ b.begin.ensures)).1
+    (begins-at b.before.before.before.args.c k.start-1.given.0.0 (sym k.start-1.given.1 ∙ b.begin-start.ensures)).1
 
 pub waiting_spec : {M : Type 1} → statement M
 waiting_spec = tie.close (tie.spec (λ _ _. tt) (λ c. search rules) (λ c. search rules) (λ c. search rules) count_requires returns returns-2 returns-3)

@@ -30,47 +30,47 @@ module _ (ws : List ℕ) (c : Finished) (low high : ℕ) (due : Given) (low' hig
       (ap (λ (x : ℕ). eqb c.answer 4 && eqb c.label x)
       (ap (λ (x : Finished). x.label) is ∙ ap (label_at ws) at ∙ sym (get_or-map (label_at ws) b i 0)))
 
-returns : tie.Need-returns
+returns : tie.Need-returns-then-low-high
 returns c =
     let start = c.before.before.before in
     let args = start.args in
-    let none = c.before.if1.true in
+    let none = c.before.if-low-high.true in
     serves args.words.now args.c args.low args.high _ args.low args.high args.buffer.now
     (record { ends = omega arith; left = omega arith; right = omega arith }) start.requires.3 _ 3 0
     (pop_none _ args.low args.high args.c.side none) (plain args.c.answer args.c.label 3 (λ e. omega arith))
 
-returns-2 : tie.Need-returns-2
+returns-2 : tie.Need-returns-then-c-eq1
 returns-2 c =
     let read = c.before.before.before in
-    let test = read.before.before.before in
+    let test = read.before.before.before.before in
     let start = test.before.before.before.before in
     let args = start.args in
     let ws = args.words.now in
     let b = args.buffer.now in
     let len = start.requires.3.size in
     let more = length-map b (label_at ws) in
-    let some = test.before.before.if1.false in
-    let right = test.if2.true in
+    let some = test.before.before.if-low-high.false in
+    let right = test.if-c-eq1.true in
     popped ws args.c args.low args.high _ args.low (args.high - 1) b
     (record { ends = omega arith; left = omega arith; right = omega arith }) start.requires.3
-    read.call_at.result _ (args.high - 1) read.call_at.ensures read.before.wide.ensures
+    read.call_at-d.result _ (args.high - 1) read.call_at-d.ensures read.before.wide.ensures
     (pop_right _ args.low args.high args.c.side (args.high - 1) _ right (omega arith) (omega arith) (omega arith))
 
-returns-3 : tie.Need-returns-3
+returns-3 : tie.Need-returns
 returns-3 c =
     let read = c.before.before.before in
-    let test = read.before.before.before in
+    let test = read.before.before.before.before in
     let start = test.before.before.before.before in
     let args = start.args in
     let ws = args.words.now in
     let b = args.buffer.now in
     let len = start.requires.3.size in
     let more = length-map b (label_at ws) in
-    let some = test.before.before.if1.false in
-    let left = test.if2.false in
+    let some = test.before.before.if-low-high.false in
+    let left = test.if-c-eq1.false in
     popped ws args.c args.low args.high _ (args.low + 1) args.high b
     (record { ends = omega arith; left = omega arith; right = omega arith }) start.requires.3
-    read.call_at2.result _ args.low read.call_at2.ensures read.before.wide2.ensures
+    read.call_at-d-2.result _ args.low read.call_at-d-2.ensures read.before.wide-2.ensures
     (pop_left _ args.low args.high args.c.side _ left (omega arith) (omega arith))
 
 pub pop_label_spec : {M : Type 1} → statement M

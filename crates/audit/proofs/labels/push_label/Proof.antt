@@ -8,13 +8,13 @@ use Rattle.audit.proofs.Buffer.{holds_more, map-set, push_left, push_right}
 use Rattle.audit.proofs.labels.push_label.Statement.{statement}
 use Rattle.audit.proofs.labels.push_label.Tie as tie
 
-returns : tie.Need-returns
+returns : tie.Need-returns-then-side-eq1
 returns c =
-    let start = c.before in
+    let start = c.before.before in
     let args = start.args in
     let b = args.buffer.now in
     let len = start.requires.4 in
-    let right = c.if1.true in
+    let right = c.before.if-side-eq1.true in
     record {
       queue_is = λ f. ap (slice args.low (args.high + 1)) (map-set f b args.high args.k)
           ∙ push_right (map f b) args.low args.high (f args.k) args.side right start.requires.1 (let z = length-map b f in omega arith);
@@ -22,13 +22,13 @@ returns c =
       holds = λ n. holds_more n b args.high args.k (omega arith);
     }
 
-returns-2 : tie.Need-returns-2
+returns-2 : tie.Need-returns
 returns-2 c =
-    let start = c.before in
+    let start = c.before.before in
     let args = start.args in
     let b = args.buffer.now in
     let len = start.requires.4 in
-    let left = c.if1.false in
+    let left = c.before.if-side-eq1.false in
     record {
       queue_is = λ f. ap (slice (args.low - 1) args.high) (map-set f b (args.low - 1) args.k)
           ∙ push_left (map f b) args.low args.high (f args.k) args.side (args.low - 1) left (omega arith) start.requires.1

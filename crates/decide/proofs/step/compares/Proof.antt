@@ -4,13 +4,13 @@ use Rattle.decide.specs.Ending.{compared}
 use Rattle.decide.proofs.step.compares.Statement.{statement}
 use Rattle.decide.proofs.step.compares.Tie as tie
 
-returns : tie.Need-returns
+returns : tie.Need-returns-then-c-r
 unfolding compared
-returns c = simp (eq-eqb _ _ c.before.if1.true) c.settles.ensures
+returns c = simp (eq-eqb _ _ c.before.if-c-r.true) c.settles.ensures
 
-returns-2 : tie.Need-returns-2
+returns-2 : tie.Need-returns-else-c-r
 unfolding compared
-returns-2 c = simp (ne_eqb _ _ c.before.if1.false) c.settles2.ensures
+returns-2 c = simp (ne_eqb _ _ c.before.if-c-r.false) c.settles-else-c-r.ensures
 
 pub compares_spec : {M : Type 1} → statement M
 compares_spec =

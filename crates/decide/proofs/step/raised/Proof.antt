@@ -6,10 +6,10 @@ use Rattle.decide.proofs.step.raised.Statement.{statement}
 use Rattle.decide.proofs.step.raised.Tie as tie
 
 add_result : tie.Need-overflow-add-result
-add_result c = record { fits = omega (arith, ap (λ (a : Anchor). a.tag) c.before.unpack.ensures) }
+add_result c = record { fits = omega (arith, ap (λ (a : Anchor). a.tag) c.before.unpack-a.ensures) }
 
 returns : tie.Need-returns
-returns c = rw c.before.unpack.ensures
+returns c = rw c.before.unpack-a.ensures
 
 pub raised_spec : {M : Type 1} → statement M
 raised_spec = tie.close (tie.spec (λ _ _. tt) add_result returns)

@@ -24,18 +24,18 @@ led c t none other n head m em en eh =
     ∙ ap (λ (l : Link). settled c t (cond (eqb l.slot 0) none other) no_entry) eh
     ∙ by_either (eqb (link_of c.head).slot 0) c t none other
 
-returns : tie.Need-returns
+returns : tie.Need-returns-then-link_sound
 unfolding head_read
 returns c =
     let pick = c.before in
     let u = pick.before.before in
     let i = u.before in
-    rw (sym i.before.link_sound.ensures ∙ i.if1.true)
-    (led _ _ _ _ _ _ _ c.settles.ensures pick.either.ensures u.unpack.ensures)
+    rw (sym i.before.link_sound.ensures ∙ i.if-link_sound.true)
+    (led _ _ _ _ _ _ _ c.settles.ensures pick.either.ensures u.unpack-head.ensures)
 
-returns-2 : tie.Need-returns-2
+returns-2 : tie.Need-returns
 unfolding head_read
-returns-2 c = rw (sym c.before.before.link_sound.ensures ∙ c.before.if1.false) c.refused.ensures
+returns-2 c = rw (sym c.before.before.link_sound.ensures ∙ c.before.if-link_sound.false) c.refused.ensures
 
 pub reads_head_spec : {M : Type 1} → statement M
 reads_head_spec = tie.close (tie.spec (λ _ _. tt) (λ _ _. tt) (λ _ _. tt) (λ _ _. tt) returns (λ _ _. tt) returns-2)

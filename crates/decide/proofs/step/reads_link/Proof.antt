@@ -5,24 +5,24 @@ use Rattle.decide.specs.Ending.{row_sound, link_read}
 use Rattle.decide.proofs.step.reads_link.Statement.{statement}
 use Rattle.decide.proofs.step.reads_link.Tie as tie
 
-is_sound : (s : tie.Then1) → (let a = s.before.before.args in row_sound a.c.slots a.r.neighbour a.w ≡ true)
-is_sound s = sym s.before.row_sound.ensures ∙ s.if1.true
+is_sound : (s : tie.Then-row_sound) → (let a = s.before.before.args in row_sound a.c.slots a.r.neighbour a.w ≡ true)
+is_sound s = sym s.before.row_sound.ensures ∙ s.if-row_sound.true
 
-returns : tie.Need-returns
+returns : tie.Need-returns-then-link-end
 unfolding link_read
 returns c =
     let link = c.before.before.before in
-    rw (is_sound link.before, eq-eqb _ _ (rw link.unpack.ensures at c.before.if2.true)) c.settles.ensures
+    rw (is_sound link.before, eq-eqb _ _ (rw link.unpack-link.ensures at c.before.if-link-end.true)) c.settles.ensures
 
-returns-2 : tie.Need-returns-2
+returns-2 : tie.Need-returns-then-row_sound
 unfolding link_read
 returns-2 c =
     let link = c.before.before.before in
-    rw (is_sound link.before, ne_eqb _ _ (rw link.unpack.ensures at c.before.if2.false)) c.settles2.ensures
+    rw (is_sound link.before, ne_eqb _ _ (rw link.unpack-link.ensures at c.before.if-link-end.false)) c.settles-then-row_sound.ensures
 
-returns-3 : tie.Need-returns-3
+returns-3 : tie.Need-returns
 unfolding link_read
-returns-3 c = rw (sym c.before.before.row_sound.ensures ∙ c.before.if1.false) c.refused.ensures
+returns-3 c = rw (sym c.before.before.row_sound.ensures ∙ c.before.if-row_sound.false) c.refused.ensures
 
 pub reads_link_spec : {M : Type 1} → statement M
 reads_link_spec =

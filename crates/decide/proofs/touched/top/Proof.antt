@@ -5,7 +5,7 @@ use Rattle.decide.proofs.touched.top.Statement.{statement}
 use Rattle.decide.proofs.touched.top.Tie as tie
 
 returns : tie.Need-returns
-returns c = ap (λ (l : Link). l.slot) c.unpack.ensures
+returns c = ap (λ (l : Link). l.slot) c.unpack-head.ensures
 
 pub top_spec : {M : Type 1} → statement M
 top_spec = tie.close (tie.spec (λ _ _. tt) returns)

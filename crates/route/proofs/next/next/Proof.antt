@@ -3,7 +3,7 @@ use mathlib.Core.{Path.{◌≡◌, refl, ap, sym, ◌∙◌}, List.{List, []}}
 use Prim.Native.Nat.{ℕ, zero, suc, ◌≤◌}
 use native.Mathlib.Omega.{arith}
 use lib.ListN.{get_or}
-use borrow.Author.{Needs.needs, Tests.ne_eqb}
+use borrow.Author.{Rules.rules, Tests.ne_eqb}
 use Rattle.model.specs.Route.{route}
 use Rattle.route.specs.Constants.{branches_of}
 use Rattle.route.proofs.{Beyond.many, next.next.Statement.statement}
@@ -22,36 +22,36 @@ of_pop : (place kind branch : ℕ) → (kind ≡ 0 → ⊥) → route place 1 br
 unfolding route
 of_pop place kind branch other = rw (ne_eqb kind 0 other)
 
-returns : tie.Need-returns
-returns c = let a = c.before.args in many a.place a.kind a.branch c.if1.true
+returns : tie.Need-returns-then-branch-gt4
+returns c = let a = c.before.args in many a.place a.kind a.branch c.if-branch-gt4.true
 
-returns-2 : tie.Need-returns-2
+returns-2 : tie.Need-returns-then-kind-eq0
 returns-2 c =
     let rows = c.before.before.before in
     let inside = rows.before in
     let a = inside.before.args in
-    ap (λ (kinds : List (List ℕ)). get_or (get_or kinds 0 []) a.branch 0) rows.row.ensures
-    ∙ entry a.place 0 a.branch inside.if1.false
-    ∙ ap (λ (kind : ℕ). route a.place kind a.branch) (sym c.if2.true)
+    ap (λ (kinds : List (List ℕ)). get_or (get_or kinds 0 []) a.branch 0) rows.row-kinds.ensures
+    ∙ entry a.place 0 a.branch inside.if-branch-gt4.false
+    ∙ ap (λ (kind : ℕ). route a.place kind a.branch) (sym c.if-kind-eq0.true)
 
-returns-3 : tie.Need-returns-3
+returns-3 : tie.Need-returns-else-kind-eq0
 returns-3 c =
     let rows = c.before.before.before in
     let inside = rows.before in
     let a = inside.before.args in
-    ap (λ (kinds : List (List ℕ)). get_or (get_or kinds 1 []) a.branch 0) rows.row.ensures
-    ∙ entry a.place 1 a.branch inside.if1.false
-    ∙ of_pop a.place a.kind a.branch c.if2.false
+    ap (λ (kinds : List (List ℕ)). get_or (get_or kinds 1 []) a.branch 0) rows.row-kinds.ensures
+    ∙ entry a.place 1 a.branch inside.if-branch-gt4.false
+    ∙ of_pop a.place a.kind a.branch c.if-kind-eq0.false
 
 pub next_spec : {M : Type 1} → statement M
 next_spec =
     tie.close
     (tie.spec
     returns
-    (λ c κs. search needs)
-    (λ c. search needs)
-    (λ c. search needs)
-    (λ c. search needs)
-    (λ c. search needs)
+    (λ c κs. search rules)
+    (λ c. search rules)
+    (λ c. search rules)
+    (λ c. search rules)
+    (λ c. search rules)
     returns-2
     returns-3)

@@ -3,7 +3,7 @@ use mathlib.Core.{Bool.true, Path.{◌≡◌, sym}, List.{List, [], ◌∷◌}}
 use Prim.Native.Nat.{ℕ, zero, suc, ◌<◌}
 use native.Mathlib.Omega.{arith}
 use lib.Dec.{eqb}
-use borrow.Author.{Needs.needs, Tests.{eqb-true, eqb-false}}
+use borrow.Author.{Rules.rules, Tests.{eqb-true, eqb-false}}
 use Rattle.model.{specs.Route.{route, push_route, pop_route}, proofs.Tests.Truth.split}
 use Rattle.route.specs.Constants.{row_of}
 use Rattle.route.proofs.{Beyond.past, next.row.Statement.statement}
@@ -31,50 +31,50 @@ above : (n x : ℕ) → Apart n x → 0 < x → n < x
 above zero x h low = low
 above (suc n) x h low = let more : n < x = above n x h.0 low in let other : x ≡ suc n → ⊥ = h.1 in omega (arith, more, other)
 
-otherwise : tie.Need-returns-18
+otherwise : tie.Need-returns-in_default
 otherwise c =
     let place = c.before.before.args.place in
     split (eqb place 0) (first place)
-    (λ busy. none place (above 17 place c.before.match.rest (omega (arith, eqb-false place 0 busy))))
+    (λ busy. none place (above 17 place c.before.in_default.in_default-own.rest (omega (arith, eqb-false place 0 busy))))
 
 pub row_spec : {M : Type 1} → statement M
 unfolding route push_route pop_route
 row_spec =
     tie.close
     (tie.spec
-    (λ c. search needs)
-    (λ c. search needs)
-    (λ c. search needs)
-    (λ c. search needs)
-    (λ c. search needs)
-    (λ c. search needs)
-    (λ c. search needs)
-    (λ c. search needs)
-    (λ c. search needs)
-    (λ c. search needs)
-    (λ c. search needs)
-    (λ c. search needs)
-    (λ c. search needs)
-    (λ c. search needs)
-    (λ c. search needs)
-    (λ c. search needs)
-    (λ c. search needs)
-    (λ c. search needs)
-    (λ c. rw c.before.match.keys1)
-    (λ c. rw c.before.match.keys2)
-    (λ c. rw c.before.match.keys3)
-    (λ c. rw c.before.match.keys4)
-    (λ c. rw c.before.match.keys5)
-    (λ c. rw c.before.match.keys6)
-    (λ c. rw c.before.match.keys7)
-    (λ c. rw c.before.match.keys8)
-    (λ c. rw c.before.match.keys9)
-    (λ c. rw c.before.match.keys10)
-    (λ c. rw c.before.match.keys11)
-    (λ c. rw c.before.match.keys12)
-    (λ c. rw c.before.match.keys13)
-    (λ c. rw c.before.match.keys14)
-    (λ c. rw c.before.match.keys15)
-    (λ c. rw c.before.match.keys16)
-    (λ c. rw c.before.match.keys17)
+    (λ c. search rules)
+    (λ c. search rules)
+    (λ c. search rules)
+    (λ c. search rules)
+    (λ c. search rules)
+    (λ c. search rules)
+    (λ c. search rules)
+    (λ c. search rules)
+    (λ c. search rules)
+    (λ c. search rules)
+    (λ c. search rules)
+    (λ c. search rules)
+    (λ c. search rules)
+    (λ c. search rules)
+    (λ c. search rules)
+    (λ c. search rules)
+    (λ c. search rules)
+    (λ c. search rules)
+    (λ c. rw c.before.in-1.is)
+    (λ c. rw c.before.in-2.is)
+    (λ c. rw c.before.in-3.is)
+    (λ c. rw c.before.in-4.is)
+    (λ c. rw c.before.in-5.is)
+    (λ c. rw c.before.in-6.is)
+    (λ c. rw c.before.in-7.is)
+    (λ c. rw c.before.in-8.is)
+    (λ c. rw c.before.in-9.is)
+    (λ c. rw c.before.in-10.is)
+    (λ c. rw c.before.in-11.is)
+    (λ c. rw c.before.in-12.is)
+    (λ c. rw c.before.in-13.is)
+    (λ c. rw c.before.in-14.is)
+    (λ c. rw c.before.in-15.is)
+    (λ c. rw c.before.in-16.is)
+    (λ c. rw c.before.in-17.is)
     otherwise)

@@ -1,0 +1,213 @@
+#!/usr/bin/env python3
+"""fixb.py CRATE..: recount .before chains by today's places (names.json)"""
+import json,os,re,subprocess,sys
+NAME=r"[A-Za-z_α-ωκ₀-₉][\w₀-₉'-]*"
+START={'args','requires','ranges','well_formed','blocks','lifetimes','type_inv','ghost','utf8','auto_'}
+class Fn:
+    def __init__(s,v):
+        s.parent={}; s.fields={}
+        for (o,par,fl,*rest),n in zip(v['places'],v['places_by_name']):
+            s.fields[n]=fl[1] if fl else ''
+            s.parent[n]=None
+        old=[p[0] for p in v['places']]
+        new=v['places_by_name']
+        for (o,par,fl,*rest),n in zip(v['places'],new):
+            s.parent[n]=new[old.index(par)] if par else None
+        s.typed={n:[x[1] for x in t] for n,t in zip(new,v['typed'])}
+        oldfield={}
+        s.known=set(f for f in s.fields.values() if f)
+        s.asked={n[1]:a[1] for n,a in zip(v['needs'],v['asked_at'])}
+        s.order=[n[1] for n in v['needs']]
+    def pos(s,root,field):
+        p=root;k=0
+        while p is not None:
+            if s.fields[p]==field or (s.parent[p] is None and field in START): return k
+            p=s.parent[p];k+=1
+        return None
+    def dist(s,root,place):
+        p=root;k=0
+        while p is not None:
+            if p==place: return k
+            p=s.parent[p];k+=1
+        return None
+    def up(s,root,k):
+        p=root
+        for _ in range(k):
+            if p is None or s.parent[p] is None: return p
+            p=s.parent[p]
+        return p
+def B(k): return '.before'*k
+def fixbody(fn,text,roots):
+    """text of one declaration body; roots: var->place"""
+    roots=dict(roots)
+    # pure-before lets
+    letre=re.compile(r"let ("+NAME+r") = ("+NAME+r")((?:\.before)*) in")
+    lets=[(m.group(1),m.group(2)) for m in letre.finditer(text)]
+    usere=re.compile(r"(?<![\w.'-])("+NAME+r")((?:\.before)*)\.("+NAME+r")")
+    posn={}
+    for x,r in lets:
+        if r not in roots: continue
+        # uses
+        cand=[]
+        direct=None
+        def walk(var,acc):
+            nonlocal direct
+            for m in usere.finditer(text):
+                if m.group(1)==var:
+                    f=m.group(3)
+                    if f=='before': continue
+                    pf=fn.pos(roots[r],f)
+                    if pf is None: continue
+                    b=m.group(2).count('.before')
+                    if var==x and b==0: direct=pf if direct is None else direct
+                    cand.append(pf)
+        walk(x,0)
+        # uses through other lets based on x
+        for y,rr in lets:
+            if rr==x:
+                for m in usere.finditer(text):
+                    if m.group(1)==y and m.group(3)!='before':
+                        pf=fn.pos(roots[r],m.group(3))
+                        if pf is not None: cand.append(pf)
+        old=None
+        for m in letre.finditer(text):
+            if m.group(1)==x: old=m.group(3).count('.before'); break
+        base=direct if direct is not None else (min([old or 0]+cand) if cand else old)
+        posn[x]=base
+        roots[x]=fn.up(roots[r],base)
+    def let(m):
+        x,r=m.group(1),m.group(2)
+        if x in posn and r in roots: return f"let {x} = {r}{B(posn[x])} in"
+        return m.group(0)
+    def use(m):
+        v,f=m.group(1),m.group(3)
+        if v in roots and f!='before':
+            p=fn.pos(roots[v],f)
+            if p is not None: return f"{v}{B(p)}.{f}"
+        return m.group(0)
+    text=letre.sub(let,text)
+    out='';
+    # do not touch inside let heads again
+    out=usere.sub(use,text)
+    return out
+def params(sig):
+    """explicit parameters' types of a signature text"""
+    res=[];i=0;n=len(sig)
+    depth=0;cur='';parts=[]
+    for ch in sig:
+        if ch in '([{': depth+=1
+        if ch in ')]}': depth-=1
+        if ch=='→' and depth==0: parts.append(cur.strip());cur=''
+        else: cur+=ch
+    parts.append(cur.strip())
+    for p in parts:
+        m=re.match(r"^\(((?:"+NAME+r"\s+)+): (.*)\)$",p,re.S)
+        if m:
+            for x in m.group(1).split(): res.append(m.group(2).strip())
+        elif p.startswith('{'): pass
+        else: 
+            # groups (a : A) (b : B)
+            gs=re.findall(r"\(((?:"+NAME+r"\s+)+): ([^()]*(?:\([^()]*\)[^()]*)*)\)",p)
+            if gs and p.startswith('('):
+                for a,b in gs:
+                    for x in a.split(): res.append(b.strip())
+            else: res.append(p)
+    return res
+def fixfile(fn,t):
+    def place(ty):
+        m=re.match(r"^\(?(?:tie|lts)\.("+NAME+")",ty)
+        if not m: return None
+        n=m.group(1)
+        if n.startswith('Need-'): return fn.asked.get(n[5:])
+        return n if n in fn.parent else None
+    lines=t.split('\n')
+    # blocks: group lines into declarations by indentation
+    out=[];i=0
+    modroots=[] # (indent, dict)
+    sigs={}
+    vals={}
+    def roots_now():
+        d=dict(vals)
+        for _,r in modroots: d.update(r)
+        return d
+    while i<len(lines):
+        L=lines[i]
+        ind=len(L)-len(L.lstrip())
+        if L.strip(): 
+            while modroots and ind<=modroots[-1][0] : modroots.pop()
+        m=re.match(r"^\s*module _ (.*) where",L)
+        if m:
+            d={}
+            for a,b in re.findall(r"\(((?:"+NAME+r"\s+)+): ((?:tie|lts)\.[^()]*)\)",m.group(1)):
+                pl=place(b)
+                if pl:
+                    for x in a.split(): d[x]=pl
+            modroots.append((ind,d)); out.append(L); i+=1; continue
+        m=re.match(r"^(\s*)((?:abbrev |unfoldable |pub )*)("+NAME+r") : (.*)$",L) or re.match(r"^(\s*)((?:abbrev |unfoldable |pub )*)("+NAME+r") :\s*()$",L)
+        if m and not L.lstrip().startswith('--'):
+            j=i+1
+            sig=m.group(4)
+            while j<len(lines) and lines[j].strip() and (len(lines[j])-len(lines[j].lstrip()))>ind: sig+=' '+lines[j].strip(); j+=1
+            sigs[(m.group(3))]=sig
+            # fix paths in signature using roots of named params
+            d=roots_now()
+            for a,b in re.findall(r"\(((?:"+NAME+r"\s+)+): ((?:tie|lts)\.[^()]*)\)",sig):
+                pl=place(b)
+                if pl:
+                    for x in a.split(): d[x]=pl
+            blk='\n'.join(lines[i:j])
+            out.append(fixbody(fn,blk,d)); i=j
+            pt=place(sig)
+            if pt and '→' not in sig: vals[m.group(3)]=pt if not sig.startswith(('tie.Need','lts.Need')) else None
+            if vals.get(m.group(3),1) is None: vals.pop(m.group(3))
+            continue
+        m=re.match(r"^(\s*)("+NAME+r")((?: (?:[^=]|=(?! ))*?)?) =(.*)$",L)
+        if m and m.group(2) in sigs and not L.lstrip().startswith('--'):
+            j=i+1
+            while j<len(lines) and (not lines[j].strip() or (len(lines[j])-len(lines[j].lstrip()))>ind): j+=1
+            while j>i+1 and not lines[j-1].strip(): j-=1
+            d=roots_now()
+            sig=sigs[m.group(2)]
+            ps=params(sig)
+            args=m.group(3).split()
+            n=place(sig)
+            if sig.startswith(('tie.Need','lts.Need')):
+                if args and n: d[args[0]]=n
+            else:
+                for a,ty in zip(args,ps):
+                    pl=place(ty)
+                    if pl: d[a]=pl
+            blk='\n'.join(lines[i:j])
+            pm=re.match(r"^\s*"+re.escape(m.group(2))+r"[^=]*= ("+NAME+r")((?:\.before)+)$",blk)
+            res=place(ps[-1]) if ps else None
+            if pm and res and pm.group(1) in d:
+                k=fn.dist(d[pm.group(1)],res)
+                if k is not None: blk=re.sub(r"((?:\.before)+)$",B(k),blk)
+            else: blk=fixbody(fn,blk,d)
+            # spec arguments
+            if m.group(2).endswith('_spec') and 'tie.spec' in blk:
+                al=re.split(r"(?=\n\s+\(λ|\n\s+"+NAME+r"(?:\)|$|\n))",blk)
+                pass
+            out.append(blk); i=j; continue
+        out.append(L); i+=1
+    return '\n'.join(out)
+def run(crate,only=None):
+    d=os.path.join('crates',crate)
+    o=f'/tmp/fb-{crate}-{os.getpid()}'
+    subprocess.run(['rm','-rf',o])
+    r=subprocess.run(['rt','check','--generated',o,'--old-names'],cwd=d,capture_output=True,text=True)
+    J=json.load(open(o+'/names.json')); subprocess.run(['rm','-rf',o])
+    pre=f'Rattle-{crate}-proofs.'
+    for key,v in J.items():
+        if not key.startswith(pre) or '.Lts' not in key: continue
+        f=key[len(pre):].split('.Lts')[0]
+        folder=os.path.join(d,'proofs',*f.split('.'))
+        fn=Fn(v)
+        ps=[os.path.join(folder,'Proof.antt')]
+        for a,_,fs in os.walk(os.path.join(folder,'Proof')): ps+=[os.path.join(a,x) for x in fs]
+        for p in ps:
+            if not os.path.exists(p): continue
+            t=open(p).read(); n=fixfile(fn,t)
+            if n!=t: open(p,'w').write(n); print('fixed',p)
+if __name__=='__main__':
+    for c in sys.argv[1:]: run(c)
