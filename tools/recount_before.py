@@ -13,6 +13,14 @@ class Fn:
         new=v['places_by_name']
         for (o,par,fl,*rest),n in zip(v['places'],new):
             s.parent[n]=new[old.index(par)] if par else None
+        # steps that one record holds together
+        for arm,n in zip(v['arms'],new):
+            if arm:
+                q=n
+                for _ in range(arm[1]):
+                    if s.parent[q] is not None: q=s.parent[q]
+                s.fields[n]=arm[0]; s.parent_merged=getattr(s,'parent_merged',{}); s.parent_merged[n]=q
+        for n,q in getattr(s,'parent_merged',{}).items(): s.parent[n]=q
         s.typed={n:[x[1] for x in t] for n,t in zip(new,v['typed'])}
         oldfield={}
         s.known=set(f for f in s.fields.values() if f)

@@ -32,8 +32,9 @@ def conv(crate,top='.'):
             if not arm: continue
             nf,_,parts=arm
             for nn,of,keys in parts:
-                for k in keys: armkeys[(norm(of),norm(k))]=(nf,nn)
-                if not keys: armkeys[(norm(of),'rest')]=(nf,nn+'.rest')
+                if keys: armkeys[(norm(of),tuple(keys))]=(nf,nn)
+                else: armkeys.setdefault((norm(of),('rest',)),(nf,nn+'.rest'))
+        armfields=set(k[0] for k in armkeys)
         for p in paths:
             t=open(p).read(); t0=t
             done='/tmp/conv-done/'+p.replace('/','%')
@@ -61,17 +62,23 @@ def conv(crate,top='.'):
                     return x
                 return m.group(1)+re.sub(W,one,m.group(2))
             t=re.sub(r"(use Rattle[^\n]*?\.(?:Tie|Lts)\.)(\{[^}]*\})",grp,t)
+            argvars=set(re.findall(r"(?:let )?([\w']+) = [\w.'()-]*\.(?:args|loop[\w-]*|new)(?= in|$)",t,flags=re.M))
             body=[]
             for line in t.split('\n'):
                 code,sep,com=line.partition('--') if line.lstrip().startswith('--') else (line,'','')
                 if line.lstrip().startswith('use '): body.append(line); continue
                 def arm(m):
-                    k=(norm(m.group(1)),norm(m.group(2)))
-                    if k in armkeys: return '.'+armkeys[k][0]+'.'+armkeys[k][1]
+                    of=norm(m.group(1)); path=m.group(2)[1:].split('.')
+                    for k in range(len(path),0,-1):
+                        key=(of,tuple(path[:k]))
+                        if key in armkeys:
+                            rest=path[k:]
+                            return '.'+'.'.join([armkeys[key][0],armkeys[key][1]]+rest)
                     return m.group(0)
-                code=re.sub(r"(?<=[\w')₀-₉])\.("+W+r")\.("+W+")",arm,code)
+                if armfields: code=re.sub(r"(?<=[\w')₀-₉])\.("+"|".join(re.escape(a)+"|"+re.escape(a.replace('_','-')) for a in sorted(armfields,key=len,reverse=True))+r")((?:\.[\w'-]+)+)",arm,code)
                 def fld(m):
                     x=m.group(1)
+                    if re.search(r"\.(args|new|initial|fn|ensures|requires|ranges|result|now|loop[\w-]*)$",m.string[:m.start()]) or re.search(r"(?<![\w.'-])("+"|".join(map(re.escape,argvars or {"no var"}))+r")$",m.string[:m.start()]): return m.group(0)
                     if norm(x) in fields and fields[norm(x)]!=x: return '.'+fields[norm(x)]
                     return m.group(0)
                 code=re.sub(r"(?<=[\w')₀-₉])\.("+W+")",fld,code)

@@ -16,7 +16,7 @@ turned true = refl
 turned false = refl
 
 -- The arguments in the model's terms, and the rules: those of admission, and those of the record and what it touches.
-module _ (asked : tie.After-admit_step) where
+module _ (asked : tie.After-admit_step-why) where
   abbrev start : tie.Start
   start = let lists = asked.before.before.before in lists.before.before.before
 
@@ -41,47 +41,47 @@ module _ (asked : tie.After-admit_step) where
   after = records ++ (rule 34 (not touches) ∷ [])
 
   -- Where the first ones pass, the others decide.
-  passed : asked.admit_step.result ≡ 0 → first (before ++ after) ≡ first after
+  passed : asked.admit_step-why.result ≡ 0 → first (before ++ after) ≡ first after
   unfolding admission lengths_fit rows_fit
-  passed none = first_passed before after refl (sym asked.admit_step.ensures ∙ none)
+  passed none = first_passed before after refl (sym asked.admit_step-why.ensures ∙ none)
 
-returns : tie.Need-returns
+returns : tie.Need-returns-then-why-ne0
 unfolding step_refusal admission lengths_fit rows_fit
 returns c =
     let asked = c.before in
-    let why = asked.admit_step.ensures in
-    why ∙ sym (first-refused (before asked) (after asked) (λ z. c.if1.true (why ∙ z)))
+    let why = asked.admit_step-why.ensures in
+    why ∙ sym (first-refused (before asked) (after asked) (λ z. c.if-why-ne0.true (why ∙ z)))
 
-returns-2 : tie.Need-returns-2
+returns-2 : tie.Need-returns-then-unfit-ne0
 unfolding step_refusal record_refusal
 returns-2 c =
     let told = c.before in
     let turn = told.before.before in
     let asked = turn.before in
-    let why = told.record_refusal.ensures in
-    rw (passed asked turn.if1.false)
-    (why ∙ sym (first-refused (records asked) (rule 34 (not (touches asked)) ∷ []) (λ z. c.if2.true (why ∙ z))))
+    let why = told.record_refusal-unfit.ensures in
+    rw (passed asked turn.if-why-ne0.false)
+    (why ∙ sym (first-refused (records asked) (rule 34 (not (touches asked)) ∷ []) (λ z. c.if-unfit-ne0.true (why ∙ z))))
 
 -- A busy and sound record: what it touches decides.
 module _ (told : tie.After-touch_refusal) where
-  abbrev sound : tie.Else2
+  abbrev sound : tie.Else-unfit-ne0
   sound = told.before
 
-  abbrev turn : tie.Else1
+  abbrev turn : tie.Else-why-ne0
   turn = sound.before.before.before
 
   decided : first (after turn.before) ≡ touch_refusal (q turn.before) (start turn.before).args.r
   unfolding touch_refusal record_refusal
   decided =
       let asked = turn.before in
-      first_passed (records asked) (rule 34 (not (touches asked)) ∷ []) refl (sym sound.before.record_refusal.ensures ∙ sound.if2.left)
+      first_passed (records asked) (rule 34 (not (touches asked)) ∷ []) refl (sym sound.before.record_refusal-unfit.ensures ∙ sound.if-unfit-ne0.false)
       ∙ turned (touches asked)
 
-returns-3 : tie.Need-returns-3
+returns-3 : tie.Need-returns
 unfolding step_refusal
 returns-3 c =
     let asked = (turn c).before in
-    rw (passed asked (turn c).if1.false) (c.touch_refusal.ensures (q asked).marks ∙ sym (decided c))
+    rw (passed asked (turn c).if-why-ne0.false) (c.touch_refusal.ensures (q asked).marks ∙ sym (decided c))
 
 pub refusal_spec : {M : Type 1} → statement M
 refusal_spec =

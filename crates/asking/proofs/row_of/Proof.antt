@@ -45,39 +45,39 @@ module _ (r : Call) where
 slot : {l m : LinkWord} → l ≡ m → l.slot ≡ m.slot
 slot e = ap (λ (l : LinkWord). l.slot) e
 
-returns : tie.Need-returns
-returns c = slot c.link3.ensures ∙ three _ c.before.match.keys1
+returns : tie.Need-returns-in-3
+returns c = slot c.link3.ensures ∙ three _ c.before.in-3.is
 
-returns-2 : tie.Need-returns-2
-returns-2 c = slot c.link5.ensures ∙ five _ c.before.match.keys2
+returns-2 : tie.Need-returns-in-5
+returns-2 c = slot c.link5.ensures ∙ five _ c.before.in-5.is
 
-returns-3 : tie.Need-returns-3
-returns-3 c = slot c.link7.ensures ∙ seven _ c.before.match.keys3
+returns-3 : tie.Need-returns-in-7
+returns-3 c = slot c.link7.ensures ∙ seven _ c.before.in-7.is
 
-returns-4 : tie.Need-returns-4
-returns-4 c = slot c.link72.ensures ∙ nine _ c.before.match.keys4
+returns-4 : tie.Need-returns-in-9
+returns-4 c = slot c.link7-in-9.ensures ∙ nine _ c.before.in-9.is
 
-returns-5 : tie.Need-returns-5
-returns-5 c = c.own_end.ensures ∙ eleven _ c.before.match.keys5
+returns-5 : tie.Need-returns-in-11
+returns-5 c = c.own_end.ensures ∙ eleven _ c.before.in-11.is
 
-returns-6 : tie.Need-returns-6
-returns-6 c = c.top.ensures ∙ thirteen _ c.before.match.keys6
+returns-6 : tie.Need-returns-in-13
+returns-6 c = c.top.ensures ∙ thirteen _ c.before.in-13.is
 
-returns-7 : tie.Need-returns-7
-returns-7 c = c.top2.ensures ∙ fourteen _ c.before.match.keys7
+returns-7 : tie.Need-returns-in-14
+returns-7 c = c.top-in-14.ensures ∙ fourteen _ c.before.in-14.is
 
-returns-8 : tie.Need-returns-8
+returns-8 : tie.Need-returns-in-16
 unfolding row
-returns-8 c = rw c.match.keys8
+returns-8 c = rw c.in-16.is
 
-returns-9 : tie.Need-returns-9
+returns-9 : tie.Need-returns-in-17
 unfolding row
-returns-9 c = rw c.match.keys9
+returns-9 c = rw c.in-17.is
 
-returns-10 : tie.Need-returns-10
+returns-10 : tie.Need-returns-in_default
 unfolding row
 returns-10 c =
-    let h = c.match.rest in
+    let h = c.in_default.in_default-own.rest in
     let thirteen = h.0.0.0 in
     let seven = thirteen.0.0.0 in
     rw (

@@ -2,7 +2,7 @@
 use mathlib.Core.{Bool.true, Path.{◌≡◌, sym, ◌∙◌}, List.List}
 use Prim.Native.Nat.{ℕ, ◌/◌}
 use native.Mathlib.Omega.{arith}
-use borrow.Author.{Rules.rules, Tests.{not-false, not-true}}
+use borrow.Author.{Rules.rules}
 use lib.ListN.{length}
 use Rattle.audit_model.specs.{Audit.{accepted, rearranges}, LentHistory.calls_in}
 use Rattle.audit.proofs.Verdicts.{at_most_64, out_of_order, rearranged, refused, replayed_so}

@@ -68,13 +68,13 @@ module _ (done : tie.After-serve_label-s invariant-loop decreases-loop) where
   rest = in_order (calls_in start.args.words.now) (drop (test.before.loop-i.i + 1) start.args.order.now)
 
   abbrev queue : List ℕ
-  queue = let at = test.before.loop-i in held start.args.words.now at.low at.high at.buffer-1
+  queue = let at = test.before.loop-i in held start.args.words.now at.low at.high at.buffer
 
   next : in_order (calls_in start.args.words.now) (drop test.before.loop-i.i start.args.order.now) ≡ call ∷ rest
   next =
       let inv = test.before.loop-i.invariant in
       let less = test.loop-i-test.true in
-      next-call start.args.words.now start.args.order.now start.pre.2 test.before.loop-i.i (omega arith)
+      next-call start.args.words.now start.args.order.now start.requires.2 test.before.loop-i.i (omega arith)
 
   is : test.before.loop-i.i + first_misplaced (call ∷ rest) ≡ start.args.misplaced
   is = sym (ap (λ (l : List Finished). test.before.loop-i.i + first_misplaced l) next) ∙ test.before.loop-i.invariant.6
@@ -87,7 +87,7 @@ returns c =
     let done = c.before.before in
     let s = done.serve_label-s in
     fails (call done) (rest done) (test done).before.loop-i.i (start done).args.misplaced (is done) (queue done) (test done).loop-i-test.true
-    (sym s.ensures.same_is ∙ c.if-not-s.true) ∙ onward done
+    (sym s.ensures.same_is ∙ not-true _ c.if-not-s.true) ∙ onward done
 
 loop-again : tie.Need-loop-i-preserved invariant-loop decreases-loop
 loop-again c =
@@ -95,7 +95,7 @@ loop-again c =
     let s = done.serve_label-s in
     let less = (test done).loop-i-test.true in
     let at = (test done).before.loop-i in
-    let inv = at.inv in (
+    let inv = at.invariant in (
       omega arith,
       inv.1,
       s.ensures.moved.ends,
@@ -104,7 +104,7 @@ loop-again c =
       s.ensures.holds,
       next_misplaced (call done) (rest done) at.i (start done).args.misplaced (is done) less,
       goes_on (call done) (rest done) at.i (start done).args.misplaced (is done) (queue done) less
-          (sym s.ensures.same_is ∙ c.if-not-s.false) _ s.ensures.queue_is ∙ onward done,
+          (sym s.ensures.same_is ∙ not-false _ c.if-not-s.false) _ s.ensures.queue_is ∙ onward done,
     )
 
 returns-2 : tie.Need-returns-then-misplaced-order invariant-loop decreases-loop
@@ -118,7 +118,7 @@ returns-2 c =
     let inv = at.invariant in
     let here : start.args.misplaced ≡ at.i = omega arith in
     let next = next-call ws ks start.requires.2 at.i (omega arith) in
-    let q = held ws at.low at.high at.buffer-1 in
+    let q = held ws at.low at.high at.buffer in
     ap (λ (m : ℕ). Failed (m + 1)) here
     ∙ stops _ _ at.i start.args.misplaced (sym (ap (λ (l : List Finished). at.i + first_misplaced l) next) ∙ inv.6) q (λ z. omega arith)
     ∙ sym (ap (λ (l : List Finished). replay (at.i + 1) l q) next) ∙ inv.7
@@ -132,7 +132,7 @@ returns-3 c =
     let all = c.if-misplaced-order.false in
     let inv = at.invariant in
     let end : length args.order.now ≤ at.i = omega arith in
-    sym (ap (λ (l : List ℕ). replay (at.i + 1) (in_order (calls_in args.words.now) l) (held args.words.now at.low at.high at.buffer-1))
+    sym (ap (λ (l : List ℕ). replay (at.i + 1) (in_order (calls_in args.words.now) l) (held args.words.now at.low at.high at.buffer))
     (drop_of_length-le args.order.now end)) ∙ inv.7
 
 pub served_spec : {M : Type 1} → statement M

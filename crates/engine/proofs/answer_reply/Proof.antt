@@ -8,20 +8,20 @@ use Rattle.engine.proofs.answer_reply.Tie as tie
 abbrev moved : Answer → Reply
 moved a = reply_of (Moved a)
 
-returns : tie.Need-returns
-returns c = sym (ap moved c.before.a.given.1)
+returns : tie.Need-returns-in-Running
+returns c = sym (ap moved c.in-Running.is)
 
-returns-2 : tie.Need-returns-2
-returns-2 c = sym (ap moved c.enum_told.given.1)
+returns-2 : tie.Need-returns-in-Pushed
+returns-2 c = sym (ap moved c.in-Pushed.is)
 
-returns-3 : tie.Need-returns-3
-returns-3 c = sym (ap moved c.enum-told2.given.1)
+returns-3 : tie.Need-returns-in-Empty
+returns-3 c = sym (ap moved c.in-Empty.is)
 
-returns-4 : tie.Need-returns-4
-returns-4 c = sym (ap moved c.before.a2.given.1)
+returns-4 : tie.Need-returns-in-Popped
+returns-4 c = sym (ap moved c.in-Popped.is)
 
-returns-5 : tie.Need-returns-5
-returns-5 c = sym (ap moved c.enum-told3.given.1)
+returns-5 : tie.Need-returns-in-NoFreeSlot
+returns-5 c = sym (ap moved c.in-NoFreeSlot.is)
 
 pub answer_reply_spec : {M : Type 1} → statement M
 answer_reply_spec =

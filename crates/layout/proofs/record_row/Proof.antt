@@ -11,7 +11,7 @@ returns : tie.Need-returns
 unfolding call_of record_of upper_of
 returns c =
     let r = c.before.args.r in
-    let small = c.before.well_formed_lem.0.1.1.1.1.1.1.0.1 in
+    let small = c.before.well_formed.0.1.1.1.1.1.1.0.1 in
     let fits : r.label % 2 ^ 32 ≡ r.label = omega (arith, small) in
     let none : r.label / 2 ^ 32 ≡ 0 = omega (arith, small) in
     (ap (λ (n : ℕ). counting (labelled r n) c.before.args.retries) fits, none)

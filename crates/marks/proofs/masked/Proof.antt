@@ -1,11 +1,12 @@
 -- What is kept of a word is a remainder, and bit 0 is dropped by halving.
-use mathlib.Core.{Path.{◌≡◌, ap, ◌∙◌, sym}, Logic.{◌≢◌, ⊎_elim}}
+use mathlib.Core.{Path.{◌≡◌, ap, ◌∙◌, sym}, Logic.◌≢◌}
 use Prim.Native.Nat.{ℕ, ◌+◌, ◌-◌, ◌*◌, ◌/◌, ◌%◌, ◌^◌}
 use native.Mathlib.{Nat.mod-eq_of_lt, Omega.arith}
 use lib.{Pow.{high, ones_split, ones_lt}, Bits.{bit_and, and_mask, and_high}}
 use borrow.Author.{Rules.rules, Tests.{eq-eqb, ne_eqb}}
 use Rattle.marks.specs.Masked.{up_to_last}
 use Rattle.marks.proofs.masked.Statement.{statement}
+use Rattle.marks.proofs.masked.Lts.{then-k-slots, else-k-slots}
 use Rattle.marks.proofs.masked.Tie as tie
 
 -- All ones, shifted down by k, are j ones.
@@ -21,10 +22,10 @@ keep w r e =
 upper : (c : tie.Joined-k-slots) → (let a = c.before.args in c.if-k-slots.m ≡ up_to_last a.w a.k a.slots)
 upper c =
     let a = c.before.args in
-    ⊎_elim
-    (λ t. rw (eq-eqb _ _ t.0.taken) (t.1 ∙ keep a.w (a.slots % 64) (omega arith)))
-    (λ t. rw (ne_eqb _ _ t.0.left) t.1)
-    c.if-k-slots.branch
+    elim c.if-k-slots.branch [
+      | then-k-slots w ↦ rw (eq-eqb _ _ w.if-k-slots.true) (w.m-is ∙ keep a.w (a.slots % 64) (omega arith))
+      | else-k-slots w ↦ rw (ne_eqb _ _ w.if-k-slots.false) w.m-is
+    ]
 
 returns : tie.Need-returns-then-k-eq0
 returns c =

@@ -1,6 +1,6 @@
 -- The first word's marks, with those up to the last word's, with this one's.
 use mathlib.Core.Path.{◌≡◌, ap, ◌∙◌}
-use Prim.Native.Nat.{ℕ, ◌≤◌, ◌+◌, ◌-◌, ◌/◌, min}
+use Prim.Native.Nat.{ℕ, ◌≤◌, ◌+◌, ◌/◌, min}
 use native.Mathlib.Omega.{arith}
 use lib.Count.{ones}
 use Rattle.model.specs.Report.{taken_slots}
@@ -50,7 +50,7 @@ module _ (m : tie.After-masked-2) where
   room : m.before.before.before_last-n.result + ones m.masked-2.result ≤ lent.args.slots
   room = omega (arith, total, marks_le lent.args.marks.now lent.args.slots)
 
-returns-2 : tie.Need-returns-then-slots-lt64
+returns-2 : tie.Need-returns
 unfolding taken_slots
 returns-2 c = total c
 

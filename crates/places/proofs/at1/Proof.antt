@@ -9,7 +9,7 @@ returns c =
     let way = seen.before in
     let word = way.before in
     let a = word.before.args in
-    rw (c.settles.ensures, seen.sees.ensures, way.after_reading.ensures, word.unpack.ensures) (step1 a.c a.r)
+    rw (c.settles.ensures, seen.sees-t.ensures, way.after_reading-n.ensures, word.unpack-a.ensures) (step1 a.c a.r)
 
 pub at1_spec : {M : Type 1} → statement M
 at1_spec =

@@ -6,32 +6,32 @@ use Rattle.decide.specs.Ending.{settled, no_entry, failing}
 use Rattle.places.proofs.{Anchors.{Tries, fails, denies, makes, step10}, at10.Statement.statement}
 use Rattle.places.proofs.at10.Tie as tie
 
-module _ (b : tie.After-new10) where
+module _ (b : tie.After-new10-new) where
   abbrev a : tie.Start
   a = let same = b.before in same.before.before.before
 
   tried :
-      Tries 10 a.args.c a.args.r b.new10.result a.args.r (route 10 a.args.r.kind 0)
+      Tries 10 a.args.c a.args.r b.new10-new.result a.args.r (route 10 a.args.r.kind 0)
       (failing (settled a.args.c a.args.r (route 10 a.args.r.kind 1) no_entry))
-  tried = step10 a.args.c a.args.r b.new10.result b.new10.ensures
+  tried = step10 a.args.c a.args.r b.new10-new.result b.new10-new.ensures
 
-returns : tie.Need-returns
+returns : tie.Need-returns-then-c-r
 returns c =
     let i = c.before.before.before in
     let a = i.before.before.before.args in
-    rw (c.fails.ensures, c.before.settles.ensures, c.before.before.next.ensures) (fails (step10 a.c a.r _ refl) i.if1.true)
+    rw (c.fails.ensures, c.before.settles-m.ensures, c.before.before.next.ensures) (fails (step10 a.c a.r _ refl) i.if-c-r.true)
 
-returns-2 : tie.Need-returns-2
+returns-2 : tie.Need-returns-then-change_refused
 returns-2 c =
     let m = c.before.before in
     rw c.refused.ensures
-    (denies (tried m.before) m.before.before.if1.false (sym m.change_refused.ensures ∙ c.before.if2.true))
+    (denies (tried m.before) m.before.before.if-c-r.false (sym m.change_refused.ensures ∙ c.before.if-change_refused.true))
 
-returns-3 : tie.Need-returns-3
+returns-3 : tie.Need-returns
 returns-3 c =
     let m = c.before.before.before.before in
-    rw (c.settles2.ensures, c.before.next2.ensures, c.before.before.with_anchor.ensures)
-    (makes (tried m.before) m.before.before.if1.false (sym m.change_refused.ensures ∙ c.before.before.before.if2.false))
+    rw (c.settles.ensures, c.before.next-2.ensures, c.before.before.with_anchor-d.ensures)
+    (makes (tried m.before) m.before.before.if-c-r.false (sym m.change_refused.ensures ∙ c.before.before.before.if-change_refused.false))
 
 pub at10_spec : {M : Type 1} → statement M
 at10_spec =

@@ -10,26 +10,26 @@ module _ (tested : tie.After-is_slot) where
   abbrev start : tie.Start
   start = let end = tested.before.before in end.before.before.before
 
-  near : tested.before.before.own_end.result ≡ own_end start.args.r
-  near = tested.before.before.own_end.ensures
+  near : tested.before.before.own_end-end.result ≡ own_end start.args.r
+  near = tested.before.before.own_end-end.ensures
 
-returns : tie.Need-returns
+returns : tie.Need-returns-then-is_slot
 returns c =
     let cleared = c.before.before.before in
     let slot = cleared.before.before in
     let tested = slot.before in
     let a = (start tested).args in
-    let yes = rw (near tested) at (sym tested.is_slot.ensures ∙ slot.if1.true) in
+    let yes = rw (near tested) at (sym tested.is_slot.ensures ∙ slot.if-is_slot.true) in
     λ ls rs xs k.
-    rw (c.at11.ensures, cleared.clear_mark.ensures, tested.before.label_at.ensures, near tested)
+    rw (c.at11.ensures, cleared.clear_mark.ensures, tested.before.label_at-label.ensures, near tested)
     (cleared11 a.c a.r ls rs a.labels.now a.marks.now xs k yes)
 
-returns-2 : tie.Need-returns-2
+returns-2 : tie.Need-returns
 returns-2 c =
     let tested = c.before.before in
     let a = (start tested).args in
-    let no = rw (near tested) at (sym tested.is_slot.ensures ∙ c.before.if1.false) in
-    λ ls rs xs k. rw c.at112.ensures (unsound11 a.c a.r ls rs a.labels.now a.marks.now xs k no _)
+    let no = rw (near tested) at (sym tested.is_slot.ensures ∙ c.before.if-is_slot.false) in
+    λ ls rs xs k. rw c.at11-2.ensures (unsound11 a.c a.r ls rs a.labels.now a.marks.now xs k no _)
 
 pub at11_spec : {M : Type 1} → statement M
 at11_spec =

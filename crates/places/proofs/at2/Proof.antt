@@ -3,10 +3,10 @@ use borrow.Author.Rules.{rules}
 use Rattle.places.proofs.{Anchors.failed2, at2.Statement.statement}
 use Rattle.places.proofs.at2.Tie as tie
 
-returns : tie.Need-returns
-returns c = c.change2.ensures c.before.if1.true
+returns : tie.Need-returns-then-c-r
+returns c = c.change2.ensures c.before.if-c-r.true
 
-returns-2 : tie.Need-returns-2
+returns-2 : tie.Need-returns
 returns-2 c =
     let gone = c.before in
     let seen = gone.before in
@@ -14,8 +14,8 @@ returns-2 c =
     let word = way.before in
     let other = word.before in
     let a = other.before.before.before.args in
-    rw (c.fails.ensures, gone.settles.ensures, seen.sees.ensures, way.after_reading.ensures, word.unpack.ensures)
-    (failed2 a.c a.r other.if1.false)
+    rw (c.fails.ensures, gone.settles-m.ensures, seen.sees-t.ensures, way.after_reading-n.ensures, word.unpack-a.ensures)
+    (failed2 a.c a.r other.if-c-r.false)
 
 pub at2_spec : {M : Type 1} → statement M
 at2_spec =

@@ -1,33 +1,33 @@
 -- `push_made` and `pop_made`, with what the calls answer put in.
 use mathlib.Core.Path.{◌≡◌, ap, sym, ◌∙◌}
-use borrow.Author.{Tests.{eq-eqb, ne_eqb}, Needs.needs}
+use borrow.Author.{Tests.{eq-eqb, ne_eqb}, Rules.rules}
 use Rattle.decide.specs.{declared.touched.LinkWord.LinkWord, Decided.{link3_of, link3}}
 use Rattle.places.proofs.{OnRows.{push_made, pop_made}, at3.Statement.statement}
 use Rattle.places.proofs.at3.Tie as tie
 
 -- Anchor as read, the beginning, and the link word touched.
-module _ (anchor : tie.After-unpack) where
+module _ (anchor : tie.After-unpack-a) where
   abbrev start : tie.Start
   start = anchor.before.before.before
 
-  by_record : {l : LinkWord} → l ≡ link3_of start.args.r anchor.unpack.result → l ≡ link3 start.args.r
-  by_record e = e ∙ ap (link3_of start.args.r) anchor.unpack.ensures
+  by_record : {l : LinkWord} → l ≡ link3_of start.args.r anchor.unpack-a.result → l ≡ link3 start.args.r
+  by_record e = e ∙ ap (link3_of start.args.r) anchor.unpack-a.ensures
 
 -- What a push finds, and which word it is.
-module _ (decided : tie.After-at3) where
-  abbrev read : tie.After-link_at
+module _ (decided : tie.After-at3-m) where
+  abbrev read : tie.After-link_at-w
   read = decided.before
 
-  abbrev link : tie.After-link3_of
-  link = read.before.before.before
+  abbrev link : tie.After-link3_of-link
+  link = read.before
 
-  abbrev push : tie.Then1
+  abbrev push : tie.Then-r-eq0
   push = link.before
 
-  abbrev anchor : tie.After-unpack
+  abbrev anchor : tie.After-unpack-a
   anchor = push.before.before
 
-returns : tie.Need-returns
+returns : tie.Need-returns-then-made
 returns c =
     let stored = c.before.before.before.before in
     let new = stored.before.before.before in
@@ -35,32 +35,32 @@ returns c =
     let decided = made.before.before in
     let a = (start (anchor decided)).args in
     λ ns ms xs k.
-    rw (stored.put_link.ensures.0, stored.put_link.ensures.1, new.new3.ensures)
-    (rw (sym made.before.made.ensures ∙ made.if2.true)
-    at (push_made a.c a.r a.lefts.now a.rights.now ns ms xs k (link decided).link3_of.result (read decided).link_at.result
-    (read decided).link_at.ensures decided.at3.result (by_record (anchor decided) (link decided).link3_of.ensures)
-    (eq-eqb _ _ (push decided).if1.true) decided.at3.ensures))
+    rw (stored.put_link.ensures.0, stored.put_link.ensures.1, new.new3-new.ensures)
+    (rw (sym made.before.made.ensures ∙ made.if-made.true)
+    at (push_made a.c a.r a.lefts.now a.rights.now ns ms xs k (link decided).link3_of-link.result (read decided).link_at-w.result
+    (read decided).link_at-w.ensures decided.at3-m.result (by_record (anchor decided) (link decided).link3_of-link.ensures)
+    (eq-eqb _ _ (push decided).if-r-eq0.true) decided.at3-m.ensures))
 
-returns-2 : tie.Need-returns-2
+returns-2 : tie.Need-returns-then-r-eq0
 returns-2 c =
     let decided = c.before.before in
     let a = (start (anchor decided)).args in
     λ ns ms xs k.
-    rw (sym c.before.made.ensures ∙ c.if2.false)
-    at (push_made a.c a.r a.lefts.now a.rights.now ns ms xs k (link decided).link3_of.result (read decided).link_at.result
-    (read decided).link_at.ensures decided.at3.result (by_record (anchor decided) (link decided).link3_of.ensures)
-    (eq-eqb _ _ (push decided).if1.true) decided.at3.ensures)
+    rw (sym c.before.made.ensures ∙ c.if-made.false)
+    at (push_made a.c a.r a.lefts.now a.rights.now ns ms xs k (link decided).link3_of-link.result (read decided).link_at-w.result
+    (read decided).link_at-w.ensures decided.at3-m.result (by_record (anchor decided) (link decided).link3_of-link.ensures)
+    (eq-eqb _ _ (push decided).if-r-eq0.true) decided.at3-m.ensures)
 
-returns-3 : tie.Need-returns-3
+returns-3 : tie.Need-returns
 returns-3 c =
     let read = c.before in
-    let link = read.before.before.before in
+    let link = read.before in
     let pop = link.before in
     let anchor = pop.before.before in
     let a = (start anchor).args in
     λ ns ms xs k.
-    pop_made a.c a.r a.lefts.now a.rights.now ns ms xs k link.link3_of2.result read.link_at2.result
-    read.link_at2.ensures c.at32.result (by_record anchor link.link3_of2.ensures) (ne_eqb _ _ pop.if1.false) c.at32.ensures
+    pop_made a.c a.r a.lefts.now a.rights.now ns ms xs k link.link3_of-link-2.result read.link_at-w-2.result
+    read.link_at-w-2.ensures c.at3.result (by_record anchor link.link3_of-link-2.ensures) (ne_eqb _ _ pop.if-r-eq0.false) c.at3.ensures
 
 pub at3_spec : {M : Type 1} → statement M
 at3_spec =
@@ -73,15 +73,15 @@ at3_spec =
     (λ _ _. tt)
     (λ _ _. tt)
     (λ _ _. tt)
-    (λ c. search needs)
-    (λ c. search needs)
+    (λ c. search rules)
+    (λ c. search rules)
     returns
-    (λ c. search needs)
-    (λ c. search needs)
+    (λ c. search rules)
+    (λ c. search rules)
     returns-2
     (λ _ _. tt)
     (λ _ _. tt)
     (λ _ _. tt)
-    (λ c. search needs)
-    (λ c. search needs)
+    (λ c. search rules)
+    (λ c. search rules)
     returns-3)

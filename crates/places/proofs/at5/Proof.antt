@@ -7,7 +7,7 @@ returns c =
     let link = c.before.before in
     let anchor = link.before in
     let a = anchor.before.before.before.args in
-    rw (c.at5.ensures, c.before.link_at.ensures, link.link5_of.ensures, anchor.unpack.ensures)
+    rw (c.at5.ensures, c.before.link_at-w.ensures, link.link5_of-link.ensures, anchor.unpack-a.ensures)
     (step5 a.c a.r a.lefts.now a.rights.now)
 
 pub at5_spec : {M : Type 1} → statement M

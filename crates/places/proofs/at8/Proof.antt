@@ -5,7 +5,7 @@ use Rattle.places.proofs.at8.Tie as tie
 
 returns : tie.Need-returns
 returns c = let a = c.before.before.before.args in
-    rw (c.compares.ensures, c.before.next2.ensures, c.before.before.next.ensures) (step8 a.c a.r)
+    rw (c.compares.ensures, c.before.next-other.ensures, c.before.before.next-same.ensures) (step8 a.c a.r)
 
 pub at8_spec : {M : Type 1} → statement M
 at8_spec =

@@ -57,21 +57,21 @@ module _ (v : tie.After-leads-next invariant-loop decreases-loop) where
       (sym e ∙ v.leads-next.ensures)
 
 returns : tie.Need-returns-in-Last invariant-loop decreases-loop
-returns c labels = let v = c.before.before in told (turn v) labels _ (onwards v _ c.enum_told-1.given.1 labels)
+returns c labels = let v = c.before in told (turn v) labels _ (onwards v _ c.in-Last.is labels)
 
 returns-2 : tie.Need-returns-in-Broken invariant-loop decreases-loop
-returns-2 c labels = let v = c.before.before in told (turn v) labels _ (onwards v _ c.enum_told-in-Broken-1.given.1 labels)
+returns-2 c labels = let v = c.before in told (turn v) labels _ (onwards v _ c.in-Broken.is labels)
 
 loop-again : tie.Need-loop-n-preserved invariant-loop decreases-loop
 loop-again c =
-    let v = c.before.before.before in
+    let v = c.before in
     let l = turn v in
     let a = (given l).args in
-    let to = c.before.next-1.given in
+    let to = c.in-Slot in
     record {
       few = omega (arith, (test v).loop-n-test.true);
-      at = led_to a.w a.lefts.now a.rights.now [] l.loop-n.x to.0.0 (sym to.1 ∙ v.leads-next.ensures);
-      counts = λ labels. sym (onwards v _ to.1 labels) ∙ l.loop-n.invariant.counts labels;
+      at = led_to a.w a.lefts.now a.rights.now [] l.loop-n.x to.y (sym to.is ∙ v.leads-next.ensures);
+      counts = λ labels. sym (onwards v _ to.is labels) ∙ l.loop-n.invariant.counts labels;
     }
 
 returns-3 : tie.Need-returns invariant-loop decreases-loop

@@ -2,7 +2,6 @@
 use mathlib.Core.Path.{◌≡◌, sym, ap, ◌∙◌}
 use Prim.Native.Nat.{ℕ, ◌%◌, ◌^◌}
 use lib.ListN.{get_or}
-use borrow.Author.Tests.{not-true, not-false}
 use Rattle.model.specs.Sound.{link_sound}
 use Rattle.walk.specs.Ways.{links_on, leads_to}
 use Rattle.walk.proofs.{Along.half_slot, target.Statement.statement}
@@ -22,5 +21,5 @@ returns-2 c =
     let fine = judged c.before ∙ c.if-not-link_sound.false in
     rw fine (ap (λ (l : ℕ). l % 2 ^ 32) c.before.before.link_at-word.ensures ∙ half_slot _ _ fine)
 
-pub target-spec : {M : Type 1} → statement M
-target-spec = tie.close (tie.spec (λ _ _. tt) (λ _ _. tt) returns returns-2)
+pub target_spec : {M : Type 1} → statement M
+target_spec = tie.close (tie.spec (λ _ _. tt) (λ _ _. tt) returns returns-2)

@@ -16,26 +16,25 @@ module _ (b : tie.After-begin-start) (labels marks next : List ℕ) where
   begun r e = ap counted (sym (waits q r (sym e ∙ b.begin-start.ensures)))
 
 returns : tie.Need-returns-in-Empty
-returns c labels marks next = begun c.before.before labels marks next _ c.enum_told-1.given.1
+returns c labels marks next = begun c.before labels marks next _ c.in-Empty.is
 
 returns-2 : tie.Need-returns-in-Unsound
-returns-2 c labels marks next = begun c.before.before labels marks next _ c.enum_told-in-Unsound-1.given.1
+returns-2 c labels marks next = begun c.before labels marks next _ c.in-Unsound.is
 
 returns-3 : tie.Need-returns-in-At
 returns-3 c labels marks next =
-    let k = c.before.before in
-    let b = k.before.before in
-    let w = k.start-1.given.0.0 in
+    let k = c.before in
+    let b = k.before in
+    let w = k.in-At.w in
     let tables = q b labels marks next in
     c.count.ensures labels
     ∙ sym (either_way (cond w.rightward 0 1) (ahead w tables.lefts tables.rights labels))
-    ∙ begun b labels marks next _ k.start-1.given.1
+    ∙ begun b labels marks next _ k.in-At.is
 
 count_requires : tie.Need-count-requires
 count_requires c κs =
-    let k = c.before in
-    let b = k.before.before in
-    (begins-at b.before.before.before.args.c k.start-1.given.0.0 (sym k.start-1.given.1 ∙ b.begin-start.ensures)).1
+    let b = c.before in
+    (begins-at b.before.before.before.args.c c.in-At.w (sym c.in-At.is ∙ b.begin-start.ensures)).1
 
 pub waiting_spec : {M : Type 1} → statement M
 waiting_spec = tie.close (tie.spec (λ _ _. tt) (λ c. search rules) (λ c. search rules) (λ c. search rules) count_requires returns returns-2 returns-3)

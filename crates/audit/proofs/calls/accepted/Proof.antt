@@ -2,7 +2,7 @@
 use mathlib.Core.{Bool.{Bool, true, false, ◌&&◌}, Path.{◌≡◌, refl, sym, ap, ◌∙◌}, List.List}
 use Prim.Native.Nat.{◌+◌, ◌-◌, ◌/◌, ◌≤◌}
 use native.Mathlib.Omega.{arith}
-use borrow.Author.{Rules.rules, Tests.{not-false, not-true}}
+use borrow.Author.{Rules.rules}
 use lib.ListN.{length, drop, drop_of_length-le}
 use Rattle.audit_model.specs.{declared.Finished.Finished, Audit.{accepted, all_of, apart, nobody, well_formed}}
 use Rattle.audit_model.specs.LentHistory.{calls_in}
@@ -25,20 +25,20 @@ loop-holds k =
     (search rules, search rules, sym (few_enough (calls_in ws) (length ws / 7) (count-is ws) k.if-n-gt64.false))
 
 -- A turn: the call looked at, and whether it is well formed.
-module _ (k : tie.After-well_formed invariant-loop decreases-loop) where
+module _ (k : tie.After-well_formed-in-loop-i invariant-loop decreases-loop) where
   abbrev at : tie.At-loop-i invariant-loop decreases-loop
   at = k.before.before.before
 
   abbrev cs : List Finished
   cs = calls_in at.before.before.before.args.words.now
 
-  turn : (a b : Bool) → k.well_formed_lem.result ≡ a → all_of (apart k.before.call_at-c.result) (drop (at.loop-i.i + 1) cs) ≡ b
+  turn : (a b : Bool) → k.well_formed-in-loop-i.result ≡ a → all_of (apart k.before.call_at-c.result) (drop (at.loop-i.i + 1) cs) ≡ b
       → passes well_formed apart (drop at.loop-i.i cs) ≡ a && (b && passes well_formed apart (drop (at.loop-i.i + 1) cs))
   turn a b e f =
       let is = sym k.before.call_at-c.ensures in
       let len = count-is at.before.before.before.args.words.now in
       let less = k.before.before.loop-i-test.true in
-      passes_turn well_formed apart cs at.loop-i.i nobody a b (omega arith) (ap well_formed is ∙ sym k.well_formed_lem.ensures ∙ e)
+      passes_turn well_formed apart cs at.loop-i.i nobody a b (omega arith) (ap well_formed is ∙ sym k.well_formed-in-loop-i.ensures ∙ e)
       (ap (λ (d : Finished). all_of (apart d) (drop (at.loop-i.i + 1) cs)) is ∙ f)
 
 returns-2 : tie.Need-returns-then-not-well_formed invariant-loop decreases-loop

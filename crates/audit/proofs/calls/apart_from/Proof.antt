@@ -2,7 +2,7 @@
 use mathlib.Core.{Bool.{Bool, true, false, ◌&&◌}, Path.{◌≡◌, refl, sym, ap, ◌∙◌}}
 use Prim.Native.Nat.{◌+◌, ◌-◌, ◌/◌, ◌≤◌}
 use native.Mathlib.Omega.{arith}
-use borrow.Author.{Rules.rules, Tests.{not-false, not-true}}
+use borrow.Author.{Rules.rules}
 use lib.ListN.{length, drop, drop_of_length-le}
 use Rattle.audit_model.specs.{Audit.{all_of, apart, nobody}, LentHistory.calls_in}
 use Rattle.audit.proofs.{Loops.all_turn, WordsRead.count-is, calls.apart_from.Statement.statement}

@@ -18,7 +18,7 @@ returns c =
     let d = get_or (calls_in ws) args.k nobody in
     let q = held ws args.low args.high args.buffer.now in
     let ends = c.before.push_label-ends.result in
-    let after = c.before.push_label-ends.new.0 in
+    let after = c.before.push_label-ends.new.buffer in
     subst (λ (x : Finished). x.kind ≡ 0 → Put args.low args.high x.side args.k ends.low ends.high args.buffer.now after
     → Serves ws d args.low args.high (gives d q) (eqb x.answer 2) ends.low ends.high after)
     (sym c.before.before.before.before.before.call_at-c.ensures)
@@ -37,7 +37,7 @@ returns-2 c =
     let q = held ws args.low args.high args.buffer.now in
     let one = c.before.before.before.before.call_at-c in
     let s = c.pop_label.result in
-    subst (λ (x : Finished). Serves ws x args.low args.high (gives x q) s.same s.low s.high c.pop_label.new.1.1.0) one.ensures
+    subst (λ (x : Finished). Serves ws x args.low args.high (gives x q) s.same s.low s.high c.pop_label.new.buffer) one.ensures
     (rw (ne_eqb one.result.kind 0 c.before.before.if-c-eq0.false) c.pop_label.ensures)
 
 pub serve_label_spec : {M : Type 1} → statement M

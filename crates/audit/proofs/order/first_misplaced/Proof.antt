@@ -54,7 +54,7 @@ loop-again c =
       omega arith,
       c.smaller-least.ensures ∙ ap (λ (x : ℕ). min x one.result.end) inv.1 ∙ sym (ap least_end next),
       c.before.sooner-first.ensures ∙ ap (λ (x : ℕ). cond (ltb x one.result.start) (at.i - 1) at.first) inv.1
-          ∙ misplaced_turn one.result rest (at.i - 1) at.first (omega (arith, one.type-inv)) (omega arith)
+          ∙ misplaced_turn one.result rest (at.i - 1) at.first (omega (arith, one.type_inv)) (omega arith)
           ∙ sym (ap (λ (l : List Finished). at.i - 1 + first_misplaced l) next),
     )
 

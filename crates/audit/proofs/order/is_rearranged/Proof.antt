@@ -55,8 +55,8 @@ module _ (c : tie.After-known invariant-loop decreases-loop) where
   behind : passes (from1 n) differ (drop (j + 1) ks) ≡ true
   behind = ap (λ (m : ℕ). passes (from1 n) differ (drop m ks)) index.0 ∙ at.loop-i.invariant.2
 
-  listed : Listed at.loop-i.listed-1 (drop (j + 1) ks)
-  listed = subst (λ (m : ℕ). Listed at.loop-i.listed-1 (drop m ks)) (sym index.0) at.loop-i.invariant.3
+  listed : Listed at.loop-i.listed (drop (j + 1) ks)
+  listed = subst (λ (m : ℕ). Listed at.loop-i.listed (drop m ks)) (sym index.0) at.loop-i.invariant.3
 
   turn : (a b : Bool) → c.known.result ≡ a → all_of (differ (get_or ks j 0)) (drop (j + 1) ks) ≡ b
       → passes (from1 n) differ (drop j ks) ≡ a && (b && passes (from1 n) differ (drop (j + 1) ks))
@@ -65,7 +65,7 @@ module _ (c : tie.After-known invariant-loop decreases-loop) where
   bounds : c.known.result ≡ true → (1 ≤ get_or ks j 0) × (get_or ks j 0 ≤ 64)
   bounds e =
       let z = within n (get_or ks j 0) (sym c.known.ensures ∙ e) in
-      let most = start.pre in
+      let most = start.requires in
       (z.0, omega arith)
 
 returns-2 : tie.Need-returns-then-not-known invariant-loop decreases-loop
@@ -99,11 +99,11 @@ loop-again c =
     let inv = (at k).loop-i.invariant in
     let x = get_or (ks k) (j k) 0 in (
       omega arith,
-      ap length put ∙ length-set (at k).loop-i.listed-1 _ _ ∙ inv.1,
+      ap length put ∙ length-set (at k).loop-i.listed _ _ ∙ inv.1,
       turn k true true (sound asked.before.before) (not-false _ (sym (told asked) ∙ c.before.before.before.if-marked.false)) ∙ behind k,
       subst (λ (marks : List ℕ). Listed marks (drop (j k) (ks k))) (sym put)
-          (subst (Listed (with_mark (at k).loop-i.listed-1 (x - 1) 1)) (sym (drop_next (ks k) (j k) 0 (let z = (index k).1 in omega arith)))
-          (one_more (at k).loop-i.listed-1 (drop (j k + 1) (ks k)) x inv.1 known.0 known.1 (listed k))),
+          (subst (Listed (with_mark (at k).loop-i.listed (x - 1) 1)) (sym (drop_next (ks k) (j k) 0 (let z = (index k).1 in omega arith)))
+          (one_more (at k).loop-i.listed (drop (j k + 1) (ks k)) x inv.1 known.0 known.1 (listed k))),
     )
 
 returns-4 : tie.Need-returns invariant-loop decreases-loop

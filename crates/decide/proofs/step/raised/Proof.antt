@@ -5,7 +5,7 @@ use Rattle.word.specs.declared.Anchor.{Anchor}
 use Rattle.decide.proofs.step.raised.Statement.{statement}
 use Rattle.decide.proofs.step.raised.Tie as tie
 
-add_result : tie.Need-overflow-add-result
+add_result : tie.Need-overflow_add-result
 add_result c = record { fits = omega (arith, ap (λ (a : Anchor). a.tag) c.before.unpack-a.ensures) }
 
 returns : tie.Need-returns
