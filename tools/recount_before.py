@@ -45,6 +45,7 @@ class Fn:
             p=s.parent[p]
         return p
 def B(k): return '.before'*k
+ARGS={}
 def fixbody(fn,text,roots):
     """text of one declaration body; roots: var->place"""
     roots=dict(roots)
@@ -80,6 +81,10 @@ def fixbody(fn,text,roots):
         old=None
         for m in letre.finditer(text):
             if m.group(1)==x: old=m.group(3).count('.before'); break
+        for fname,pl in ARGS.items():
+            if pl in fn.parent and re.search(r"(?<![\w.'-])"+re.escape(fname)+r" "+re.escape(x)+r"(?![\w.'-])",text):
+                k=fn.dist(roots[r],pl)
+                if k is not None: direct=k
         base=direct if direct is not None else (min([old or 0]+cand) if cand else old)
         posn[x]=base
         roots[x]=fn.up(roots[r],base)
@@ -94,6 +99,14 @@ def fixbody(fn,text,roots):
             if p is not None: return f"{v}{B(p)}.{f}"
         return m.group(0)
     text=letre.sub(let,text)
+    def arg(m):
+        f,v,b=m.group(1),m.group(2),m.group(3)
+        pl=ARGS.get(f)
+        if v in roots and pl in fn.parent:
+            k=fn.dist(roots[v],pl)
+            if k is not None: return f"{f} {v}{B(k)}"
+        return m.group(0)
+    if ARGS: text=re.sub(r"(?<![\w.'-])("+"|".join(re.escape(a) for a in sorted(ARGS,key=len,reverse=True))+r") ("+NAME+r")((?:\.before)*)(?![\w.'-])",arg,text)
     out='';
     # do not touch inside let heads again
     out=usere.sub(use,text)
@@ -122,6 +135,7 @@ def params(sig):
             else: res.append(p)
     return res
 def fixfile(fn,t):
+    ARGS.clear()
     def place(ty):
         m=re.match(r"^\(?(?:tie|lts)\.("+NAME+")",ty)
         if not m: return None
@@ -150,6 +164,14 @@ def fixfile(fn,t):
                 pl=place(b)
                 if pl:
                     for x in a.split(): d[x]=pl
+            first=re.match(r"^\s*module _ \(("+NAME+r") : ((?:tie|lts)\.[^()]*)\)",L)
+            fp=place(first.group(2)) if first else None
+            if fp:
+                j=i+1
+                while j<len(lines) and (not lines[j].strip() or len(lines[j])-len(lines[j].lstrip())>ind):
+                    mm=re.match(r"^\s{"+str(ind+2)+r"}((?:abbrev |unfoldable |pub )*)("+NAME+r") :",lines[j])
+                    if mm: ARGS[mm.group(2)]=fp
+                    j+=1
             modroots.append((ind,d)); out.append(L); i+=1; continue
         m=re.match(r"^(\s*)((?:abbrev |unfoldable |pub )*)("+NAME+r") : (.*)$",L) or re.match(r"^(\s*)((?:abbrev |unfoldable |pub )*)("+NAME+r") :\s*()$",L)
         if m and not L.lstrip().startswith('--'):
@@ -157,6 +179,8 @@ def fixfile(fn,t):
             sig=m.group(4)
             while j<len(lines) and lines[j].strip() and (len(lines[j])-len(lines[j].lstrip()))>ind: sig+=' '+lines[j].strip(); j+=1
             sigs[(m.group(3))]=sig
+            pp=params(sig)
+            if pp and '→' in sig and place(pp[0]) and not pp[0].startswith(('tie.Need','lts.Need')): ARGS[m.group(3)]=place(pp[0])
             # fix paths in signature using roots of named params
             d=roots_now()
             for a,b in re.findall(r"\(((?:"+NAME+r"\s+)+): ((?:tie|lts)\.[^()]*)\)",sig):
@@ -191,6 +215,10 @@ def fixfile(fn,t):
             if pm and res and pm.group(1) in d:
                 k=fn.dist(d[pm.group(1)],res)
                 if k is not None: blk=re.sub(r"((?:\.before)+)$",B(k),blk)
+            elif res and re.search(r"= let ("+NAME+r") = ("+NAME+r")(?:\.before)* in \1(?:\.before)*$",blk):
+                mm=re.search(r"= let ("+NAME+r") = ("+NAME+r")(?:\.before)* in \1(?:\.before)*$",blk)
+                if mm.group(2) in d and fn.dist(d[mm.group(2)],res) is not None:
+                    blk=blk[:mm.start()]+f"= {mm.group(2)}{B(fn.dist(d[mm.group(2)],res))}"
             else: blk=fixbody(fn,blk,d)
             # spec arguments
             if m.group(2).endswith('_spec') and 'tie.spec' in blk:

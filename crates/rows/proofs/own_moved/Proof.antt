@@ -12,8 +12,8 @@ returns : tie.Need-returns
 unfolding call_of record_of upper_of
 returns c =
     let a = c.before.args in
-    let word = c.relabelled.ensures in
-    (ap (λ (n : ℕ). counting (own_moved (call_of a.t1) (labelled a.r n)) (record_of a.t1).retries) word.0, word.1)
+    let word = c.relabelled-word.ensures in
+    (ap (λ (n : ℕ). counting (own_moved (call_of a.row) (labelled a.r n)) (record_of a.row).retries) word.0, word.1)
 
 pub own_moved_spec : {M : Type 1} → statement M
 own_moved_spec =

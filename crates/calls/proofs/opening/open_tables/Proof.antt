@@ -7,16 +7,16 @@ use Rattle.calls.proofs.Openings.{accepted, refused_parts, opened_parts}
 use Rattle.calls.proofs.opening.open_tables.Statement.{statement}
 use Rattle.calls.proofs.opening.open_tables.Tie as tie
 
-returns : tie.Need-returns
+returns : tie.Need-returns-then-why-ne0
 unfolding rows_fit lengths_fit
 returns c =
-    let why = c.before.open_refusal in
-    rw why.ensures (refused_parts _ _ _ _ _ _ (rw (← why.ensures) c.if1.true))
+    let why = c.before.open_refusal-why in
+    rw why.ensures (refused_parts _ _ _ _ _ _ (rw (← why.ensures) c.if-why-ne0.true))
 
-add_rows : tie.Need-overflow-add-rows
-add_rows c = let h = accepted _ _ _ (sym c.before.open_refusal.ensures ∙ c.if1.false) in search rules
+add_rows : tie.Need-overflow_add-rows
+add_rows c = let h = accepted _ _ _ (sym c.before.open_refusal-why.ensures ∙ c.if-why-ne0.false) in search rules
 
-returns-2 : tie.Need-returns-2
+returns-2 : tie.Need-returns
 unfolding rows_fit lengths_fit
 returns-2 c =
     let next = c.before.before.before in
@@ -26,14 +26,14 @@ returns-2 c =
     let lefts = rights.before.before.before.before in
     let test = lefts.before.before in
     rw (
-      c.opened_control.ensures,
+      c.opened_control-control.ensures,
       next.stack_slots.ensures,
-      marks.zero_words3.ensures,
+      marks.zero_words-3.ensures,
       labels.zero_labels.ensures,
-      rights.zero_words2.ensures,
+      rights.zero_words-2.ensures,
       lefts.zero_words.ensures,
     )
-    (opened_parts _ _ _ _ _ _ (sym test.before.open_refusal.ensures ∙ test.if1.false))
+    (opened_parts _ _ _ _ _ _ (sym test.before.open_refusal-why.ensures ∙ test.if-why-ne0.false))
 
 pub open_tables_spec : {M : Type 1} → statement M
 open_tables_spec =

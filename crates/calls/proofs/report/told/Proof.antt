@@ -9,40 +9,40 @@ use Rattle.calls.proofs.{Tells.{refused, astray, tells, why}, report.told.Statem
 use Rattle.calls.proofs.report.told.Tie as tie
 
 -- What the call was given, where the first two rules have been tried.
-abbrev start : tie.After-table_refusal → tie.Start
-start r = let lists = r.before.before.before in lists.before.before.before
+abbrev start : tie.After-table_refusal-why → tie.Start
+start r = r.before.before.before.before.before.before
 
-abbrev tables : tie.After-table_refusal → Tables
+abbrev tables : tie.After-table_refusal-why → Tables
 tables r = let a = (start r).args in tables_of a.c a.lefts.now a.rights.now a.labels.now a.marks.now a.next.now
 
-abbrev enough : tie.After-table_refusal → Bool
+abbrev enough : tie.After-table_refusal-why → Bool
 enough r = leb (start r).args.c.tasks (start r).args.records
 
 -- The number found is the first two rules'.
-found : (r : tie.After-table_refusal) → r.table_refusal.result ≡ why (tables r) (enough r) (start r).args.busy
+found : (r : tie.After-table_refusal-why) → r.table_refusal-why.result ≡ why (tables r) (enough r) (start r).args.busy
 unfolding lengths_fit rows_fit
-found r = r.table_refusal.ensures
+found r = r.table_refusal-why.ensures
 
-returns : tie.Need-returns
-returns c = let r = c.before in refused (tables r) (enough r) (start r).args.busy _ (found r) c.if1.true
+returns : tie.Need-returns-then-why-ne0
+returns c = let r = c.before in refused (tables r) (enough r) (start r).args.busy _ (found r) c.if-why-ne0.true
 
 -- The walk, where the first two rules passed.
-walked : (w : tie.After-waiting) → w.waiting.result ≡ counted (contents (tables w.before.before))
-walked w = let a = (start w.before.before).args in w.waiting.ensures a.labels.now a.marks.now a.next.now
+walked : (w : tie.After-waiting-walked) → w.waiting-walked.result ≡ counted (contents (tables w.before.before))
+walked w = let a = (start w.before.before).args in w.waiting-walked.ensures a.labels.now a.marks.now a.next.now
 
-returns-2 : tie.Need-returns-2
+returns-2 : tie.Need-returns-in-Broken
 returns-2 c =
-    let w = c.before.before in
+    let w = c.before in
     let r = w.before.before in
-    astray (tables r) (enough r) (start r).args.busy _ (found r) w.before.if1.false (sym c.enum_told.given.1 ∙ walked w)
+    astray (tables r) (enough r) (start r).args.busy _ (found r) w.before.if-why-ne0.false (sym c.in-Broken.is ∙ walked w)
 
-returns-3 : tie.Need-returns-3
+returns-3 : tie.Need-returns-in-Labels
 returns-3 c =
-    let k = c.before.before.before in
-    let w = k.before.before in
+    let k = c.before.before in
+    let w = k.before in
     let r = w.before.before in
-    rw (c.before.unpack.ensures, c.taken.ensures)
-    (tells (tables r) (enough r) (start r).args.busy _ (found r) w.before.if1.false k.walked.given.0.0 (sym k.walked.given.1 ∙ walked w))
+    rw (c.before.unpack-anchor.ensures, c.taken-taken.ensures)
+    (tells (tables r) (enough r) (start r).args.busy _ (found r) w.before.if-why-ne0.false k.in-Labels.waiting (sym k.in-Labels.is ∙ walked w))
 
 pub told_spec : {M : Type 1} → statement M
 told_spec =

@@ -36,7 +36,7 @@ module _ (marks1 next1 marks2 next2 next : List ℕ) where
   unfolding third_fits
   tried w =
       let a = (start w).args in
-      let e1 = (fit w).lengths_fit_lem.ensures ∙ fits-is a.first a.records1.now a.lefts1.now a.rights1.now a.labels1.now [] marks1 next1 in
+      let e1 = (fit w).lengths_fit.ensures ∙ fits-is a.first a.records1.now a.lefts1.now a.rights1.now a.labels1.now [] marks1 next1 in
       let e2 = w.before.before.before.lengths_fit2.ensures ∙ fits-is a.second a.records2.now a.lefts2.now a.rights2.now
       a.labels2.now [] marks2 next2 in
       let e3 = w.before.before.lengths_fit3.ensures ∙ fits-is a.third a.records.now a.lefts.now a.rights.now a.labels.now

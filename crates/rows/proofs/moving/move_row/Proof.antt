@@ -4,22 +4,22 @@ use Rattle.layout.specs.Rows.{call_of}
 use Rattle.rows.proofs.moving.move_row.Statement.{statement}
 use Rattle.rows.proofs.moving.move_row.Tie as tie
 
-returns : tie.Need-returns
+returns : tie.Need-returns-then-was-gt10
 unfolding call_of
 returns c =
     let made0 = c.before.before.before.before in
     let made = made0.before.before in
     let high0 = made.before.before.before.before in
     let high = high0.before.before in
-    made.slot_step.ensures high.if1.true _ _
+    made.slot_step.ensures high.if-was-gt10.true _ _
 
-returns-2 : tie.Need-returns-2
+returns-2 : tie.Need-returns
 unfolding call_of
 returns-2 c =
     let made = c.before.before.before.before in
     let low0 = made.before.before.before.before in
     let low = low0.before in
-    made.deque_step.ensures low.if1.false _ _ _
+    made.deque_step.ensures low.if-was-gt10.false _ _ _
 
 pub move_row_spec : {M : Type 1} → statement M
 move_row_spec =

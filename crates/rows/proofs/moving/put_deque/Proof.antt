@@ -8,7 +8,7 @@ use Rattle.engine.proofs.Stored.{deque_end, deque_going, deque-nothing, refused-
 use borrow.Author.Rules.{rules}
 use Rattle.rows.proofs.moving.put_deque.Tie as tie
 
-returns : tie.Need-returns
+returns : tie.Need-returns-then-ends
 unfolding call_of record_of upper_of
 returns c =
     let ended = c.before in
@@ -16,11 +16,11 @@ returns c =
     let after-control = counted.before.before in
     let moved = after-control.before.before.before in
     let m = moved.before.before.args.m in
-    let ends = sym ended.before.ends.ensures ∙ ended.if2.true in
-    let after = deque_end _ _ m (sym moved.before.moves.ensures ∙ moved.if1.true) ends in
-    (refl, (after-control.anchor_moved.ensures ∙ after.0, (ap (counting idle) counted.counted.ensures ∙ after.1, rw ends)))
+    let ends = sym ended.before.ends.ensures ∙ ended.if-ends.true in
+    let after = deque_end _ _ m (sym moved.before.moves.ensures ∙ moved.if-moves.true) ends in
+    (refl, (after-control.anchor_moved-after.ensures ∙ after.0, (ap (counting idle) counted.counted-retries.ensures ∙ after.1, rw ends)))
 
-returns-2 : tie.Need-returns-2
+returns-2 : tie.Need-returns-then-moves
 unfolding record_of
 returns-2 c =
     let ended = c.before.before in
@@ -28,15 +28,15 @@ returns-2 c =
     let after-control = counted.before.before in
     let moved = after-control.before.before.before in
     let m = moved.before.before.args.m in
-    let goes = sym ended.before.ends.ensures ∙ ended.if2.false in
-    let after = deque_going _ _ m (sym moved.before.moves.ensures ∙ moved.if1.true) goes in
-    let next = c.call_moved.ensures in
-    (refl, (after-control.anchor_moved.ensures ∙ after.0, (next.0 ∙ ap (counting _) counted.counted.ensures ∙ after.1, rw goes next.1)))
+    let goes = sym ended.before.ends.ensures ∙ ended.if-ends.false in
+    let after = deque_going _ _ m (sym moved.before.moves.ensures ∙ moved.if-moves.true) goes in
+    let next = c.call_moved-moved.ensures in
+    (refl, (after-control.anchor_moved-after.ensures ∙ after.0, (next.0 ∙ ap (counting _) counted.counted-retries.ensures ∙ after.1, rw goes next.1)))
 
-returns-3 : tie.Need-returns-3
+returns-3 : tie.Need-returns
 returns-3 c =
     let m = c.before.before.args.m in
-    let stays = sym c.before.moves.ensures ∙ c.if1.false in
+    let stays = sym c.before.moves.ensures ∙ c.if-moves.false in
     let after = deque-nothing _ _ m stays in
     (refl, (after.0, (after.1, rw (refused-goes m.outcome stays))))
 

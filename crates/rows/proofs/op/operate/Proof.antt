@@ -3,43 +3,43 @@ use borrow.Author.Rules.{rules}
 use Rattle.rows.proofs.op.operate.Statement.{statement}
 use Rattle.rows.proofs.op.operate.Tie as tie
 
-returns : tie.Need-returns
+returns : tie.Need-returns-in-Push
 returns c =
     let labels = c.before.before.before.before in
     let done = labels.before in
     let lent = done.before.before.before.before in
-    let told = lent.before.before.before.before in (
-      rw told.before.op.given.1 done.push.ensures.0,
-      rw told.before.op.given.1 done.push.ensures.1,
+    let told = lent in (
+      rw told.in-Push.is done.push.ensures.0,
+      rw told.in-Push.is done.push.ensures.1,
     )
 
-returns-2 : tie.Need-returns-2
+returns-2 : tie.Need-returns-in-Pop
 returns-2 c =
     let done = c.before in
-    let lent = done.before.before.before.before in
-    let told = lent.before.before.before.before in (
-      rw told.before.op2.given.1 done.pop.ensures.0,
-      rw told.before.op2.given.1 done.pop.ensures.1,
+    let lent = done.before.before in
+    let told = lent in (
+      rw told.in-Pop.is done.pop.ensures.0,
+      rw told.in-Pop.is done.pop.ensures.1,
     )
 
-returns-3 : tie.Need-returns-3
+returns-3 : tie.Need-returns-in-PushPooled
 returns-3 c =
     let done = c.before in
-    let lent = done.before.before.before.before in
-    let told = lent.before.before.before.before in (
-      rw told.before.op3.given.1 done.push_pooled.ensures.0,
-      rw told.before.op3.given.1 done.push_pooled.ensures.1,
+    let lent = done.before.before in
+    let told = lent in (
+      rw told.in-PushPooled.is done.push_pooled.ensures.0,
+      rw told.in-PushPooled.is done.push_pooled.ensures.1,
     )
 
-returns-4 : tie.Need-returns-4
+returns-4 : tie.Need-returns-in-Step
 returns-4 c =
     let labels = c.before.before.before.before in
     let lefts = labels.before.before.before.before in
     let done = lefts.before.before.before in
     let lent = done.before.before.before.before in
     let told = lent.before.before.before.before in (
-      rw told.enum_told.given.1 done.step.ensures.0,
-      rw told.enum_told.given.1 done.step.ensures.1,
+      rw told.in-Step.is done.step.ensures.0,
+      rw told.in-Step.is done.step.ensures.1,
     )
 
 pub operate_spec : {M : Type 1} → statement M

@@ -13,12 +13,12 @@ returns c =
     let lent = put.before.before.before in
     let begun = lent.before.before.before in
     let read = begun.before.before.before in
-    let told = read.before.before in
+    let told = read.before in
     let lists = told.before.before.before in
     let a = lists.before.before.before.before.args in (
       started _ a.records.now _ _ _ _ _ _ _ (push_starts _ a.records.now _ _ _ _ _ a.task _ _ _) _ _ _ _ _ _
-          told.control_of.ensures read.call_at.ensures
-          (push_begun _ _ _ _ _ _ _ _ _ _ _ _ _ _ _ refl begun.push_start.ensures.0 begun.push_start.ensures.1)
+          told.control_of-c.ensures read.call_at-r.ensures
+          (push_begun _ _ _ _ _ _ _ _ _ _ _ _ _ _ _ refl begun.push_start-m.ensures.0 begun.push_start-m.ensures.1)
           put.store_start.ensures.0,
       put.store_start.ensures.1,
     )

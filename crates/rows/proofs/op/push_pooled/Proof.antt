@@ -12,12 +12,12 @@ returns c =
     let put = c.before in
     let begun = put.before.before in
     let read = begun.before in
-    let told = read.before.before in
+    let told = read.before in
     let lists = told.before.before.before in
     let a = lists.before.before.before.before.args in (
       started _ a.records.now _ _ _ _ _ _ _ (push_pooled_starts _ a.records.now _ _ _ _ _ a.task _ _) _ _ _ _ _ _
-          told.control_of.ensures read.call_at.ensures
-          (push_pooled_begun _ _ _ _ _ _ _ _ _ _ _ _ refl begun.push_pooled_start.ensures) put.store_start.ensures.0,
+          told.control_of-c.ensures read.call_at-r.ensures
+          (push_pooled_begun _ _ _ _ _ _ _ _ _ _ _ _ refl begun.push_pooled_start-m.ensures) put.store_start.ensures.0,
       put.store_start.ensures.1,
     )
 

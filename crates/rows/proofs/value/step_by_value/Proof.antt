@@ -33,8 +33,8 @@ returns c =
     let moved = rights.before.before.before in
     let lent = moved.before.before.before.before in
     let made = lent.before.before.before.before in
-    in_rows _ _ _ _ _ _ _ _ _ _ _ _ _ _ _ _ _ _ _ _ made.before.before.control_row.ensures made.record_row.ensures.0
-    moved.Move_row.ensures control.control_of.ensures call.call_of.ensures c.retries_of.ensures
+    in_rows _ _ _ _ _ _ _ _ _ _ _ _ _ _ _ _ _ _ _ _ made.before.before.control_row-words.ensures made.record_row-row.ensures.0
+    moved.move_row-outcome.ensures control.control_of-control.ensures call.call_of-call.ensures c.retries_of-retries.ensures
 
 pub step_by_value_spec : {M : Type 1} → statement M
 step_by_value_spec =

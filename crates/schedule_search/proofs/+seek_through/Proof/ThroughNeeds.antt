@@ -26,16 +26,16 @@ module _ (n : ℕ) where
       let a = c.args in
       queue_in a.control.now a.pair.now a.lefts.now a.rights.now a.labels.now a.marks.now a.next.now
 
-  pub passes : lts.Need-returns (through_callees n) (through-at n) through.Post
+  pub passes : lts.Need-returns-then-e-ne3 (through_callees n) (through-at n) through.Post
   passes c =
       let chosen = c.before.before in
       let start = begun chosen in
       let a = start.args in
-      passed_over _ a.len a.left a.free (whole start) a.t _ _ (chosen.choose.ensures (tables start)) c.before.if1.true
+      passed_over _ a.len a.left a.free (whole start) a.t _ _ (chosen.choose.ensures (tables start)) c.before.if-e-ne3.true
       c.none.ensures
 
   -- The calls made, from the last one back.
-  abbrev chosen : lts.After-step (through_callees n) (through-at n) through.Post → lts.Else1 (through_callees n) (through-at n) through.Post
+  abbrev chosen : lts.After-step (through_callees n) (through-at n) through.Post → lts.Else-e-ne3 (through_callees n) (through-at n) through.Post
   chosen c = let lent = c.before.before.before.before in lent.before.before.before.before
 
   abbrev stepped : lts.After-seek (through_callees n) (through-at n) through.Post → lts.After-step (through_callees n) (through-at n) through.Post
@@ -100,40 +100,40 @@ module _ (n : ℕ) where
       let z = (start (sought at2.before.before.before)).pre.1 in
       omega (arith, z.1.1)
 
-  pub same-given : lts.Need-same-length-2 (through_callees n) (through-at n) through.Post
+  pub same-given : lts.Need-shape_of-lefts-then-f (through_callees n) (through-at n) through.Post
   same-given c = c.before.before.note.auto.1.0 ∙ (sought (put c.before.before)).seek.kept.1.1.1.1.1.1.0
 
-  pub same-lefts : lts.Need-same-length-3 (through_callees n) (through-at n) through.Post
+  pub same-lefts : lts.Need-shape_of-rights-then-f (through_callees n) (through-at n) through.Post
   same-lefts c =
       let p = put c.before.before in
       let s = sought p in
       p.back.kept.1.1.1.1.0 ∙ s.seek.kept.1.1.1.1.1.1.1.0 ∙ (stepped s).step.kept.1.1.1.0
 
-  pub same-rights : lts.Need-same-length-4 (through_callees n) (through-at n) through.Post
+  pub same-rights : lts.Need-shape_of-labels-then-f (through_callees n) (through-at n) through.Post
   same-rights c =
       let p = put c.before.before in
       let s = sought p in
       p.back.kept.1.1.1.1.1.0 ∙ s.seek.kept.1.1.1.1.1.1.1.1.0 ∙ (stepped s).step.kept.1.1.1.1.0
 
-  pub same-labels : lts.Need-same-length-5 (through_callees n) (through-at n) through.Post
+  pub same-labels : lts.Need-shape_of-marks-then-f (through_callees n) (through-at n) through.Post
   same-labels c =
       let p = put c.before.before in
       let s = sought p in
       p.back.kept.1.1.1.1.1.1.0 ∙ s.seek.kept.1.1.1.1.1.1.1.1.1.0 ∙ (stepped s).step.kept.1.1.1.1.1.0
 
-  pub same-marks : lts.Need-same-length-6 (through_callees n) (through-at n) through.Post
+  pub same-marks : lts.Need-shape_of-next-then-f (through_callees n) (through-at n) through.Post
   same-marks c =
       let p = put c.before.before in
       let s = sought p in
       p.back.kept.1.1.1.1.1.1.1.0 ∙ s.seek.kept.1.1.1.1.1.1.1.1.1.1.0 ∙ (stepped s).step.kept.1.1.1.1.1.1.0
 
-  pub same_next : lts.Need-same-length-7 (through_callees n) (through-at n) through.Post
+  pub same_next : lts.Need-shape_of-given (through_callees n) (through-at n) through.Post
   same_next c =
       let p = put c.before.before in
       let s = sought p in
       p.back.kept.1.1.1.1.1.1.1.1.0 ∙ s.seek.kept.1.1.1.1.1.1.1.1.1.1.1.0 ∙ (stepped s).step.kept.1.1.1.1.1.1.1.0
 
-  pub back_and_on : lts.Need-returns-2 (through_callees n) (through-at n) through.Post
+  pub back_and_on : lts.Need-returns-then-f (through_callees n) (through-at n) through.Post
   back_and_on c =
       let noted = c.before.before in
       let p = put noted in
@@ -143,4 +143,4 @@ module _ (n : ℕ) where
       let a = (start s).args in
       let z = (start s).pre.1 in
       there_and_back _ a.len a.left a.free (whole (start s)) a.t z.1.0 z.1.1 _ _ _ _ _ _ _ _
-      (on.before.choose.ensures (tables (start s))) on.if1.left k.step.ensures s.seek.ensures p.back.ensures noted.note.ensures
+      (on.before.choose.ensures (tables (start s))) on.if-e-ne3.false k.step.ensures s.seek.ensures p.back.ensures noted.note.ensures
