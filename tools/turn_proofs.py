@@ -37,6 +37,8 @@ def conv(crate,top='.'):
         armfields=set(k[0] for k in armkeys)
         for p in paths:
             t=open(p).read(); t0=t
+            which=key[len(pre):].split('.Lts')[1]
+            if which and not re.search(r'\.Lts'+re.escape(which)+r'(?![\w-])',t): continue
             done='/tmp/conv-done/'+p.replace('/','%')
             if os.path.exists(done): continue
             os.makedirs('/tmp/conv-done',exist_ok=True); open(done,'w').close()

@@ -13,8 +13,8 @@ use Rattle.schedule_search.proofs.through.Reads as through
 use Rattle.schedule_search.proofs.+seek_through.Lts-seek as seek-lts
 use Rattle.schedule_search.proofs.+seek_through.Lts-through as through-lts
 
-pub +seek-through-spec : {M : Type 1} → statement M
-+seek-through-spec =
+pub +seek_through_spec : {M : Type 1} → statement M
++seek_through_spec =
     close μ_seek μ_through
     (λ n. seek-lts.spec (seek_callees n) (seek_at n) seek.Post Inv_loop μ_loop
     (λ _ _. tt)

@@ -31,7 +31,7 @@ returns-2 c q =
     let go = first.before.before in
     let a = go.before.args in
     made q a.pair.now a.stopped true a.left answered_both _ _ go.if-stopped.false first.call_at-a.ensures second.call_at-b.ensures
-    c.if-not-a-b.true refl
+    c.if-not-a-b.true-raw refl
 
 returns-3 : tie.Need-returns-then-left-eq0
 returns-3 c q =
@@ -40,7 +40,7 @@ returns-3 c q =
     let go = first.before.before in
     let a = go.before.args in
     made q a.pair.now a.stopped false a.left was_cut _ _ go.if-stopped.false first.call_at-a.ensures second.call_at-b.ensures
-    c.before.if-not-a-b.false (rw (eq-eqb _ 0 c.if-left-eq0.true) refl)
+    c.before.if-not-a-b.false-raw (rw (eq-eqb _ 0 c.if-left-eq0.true) refl)
 
 returns-4 : tie.Need-returns-else-left-eq0
 returns-4 c q =
@@ -49,7 +49,7 @@ returns-4 c q =
     let go = first.before.before in
     let a = go.before.args in
     made q a.pair.now a.stopped false a.left goes_on _ _ go.if-stopped.false first.call_at-a.ensures second.call_at-b.ensures
-    c.before.if-not-a-b.false (rw (ne_eqb _ 0 c.if-left-eq0.false) refl)
+    c.before.if-not-a-b.false-raw (rw (ne_eqb _ 0 c.if-left-eq0.false) refl)
 
 pub ending_spec : {M : Type 1} → statement M
 ending_spec = tie.close (tie.spec returns (λ _ _. tt) (λ _ _. tt) returns-2 returns-3 returns-4)

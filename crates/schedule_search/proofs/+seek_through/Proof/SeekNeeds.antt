@@ -60,7 +60,7 @@ module _ (n : ℕ) where
       let lent = c.before.before.before.before in
       let turn = lent.before.before.before.before in
       let on = turn.before.before in
-      let pre = (begun on.before).pre in
+      let pre = (begun on.before).requires in
       let some = (goes on).some in (
         omega (arith, pre.0, some),
         (turn.loop-t-test.true, (some, pre.1)),
@@ -75,10 +75,7 @@ module _ (n : ℕ) where
         rights.before.before.before.before
 
     abbrev turn : lts.In-loop-t (seek_callees n) (seek_at n) seek.Post Inv_loop μ_loop
-    turn =
-        let lent = did.before.before.before.before in
-        let first = lent.before.before.before.before in
-        first.before
+    turn = did.before.before.before.before.before.before.before.before.before
 
   pub found : lts.Need-returns-then-f (seek_callees n) (seek_at n) seek.Post Inv_loop μ_loop
   found c =
@@ -89,22 +86,22 @@ module _ (n : ℕ) where
       c.if-f.true
 
   pub same-given : lts.Need-shape_of-given-then-f (seek_callees n) (seek_at n) seek.Post Inv_loop μ_loop
-  same-given c = (did c.before).through-f.kept.1.1.1.1.1.1.0 ∙ (turn c.before).before.loop-t.invariant.1
+  same-given c = (did c.before).through-f.auto.given ∙ (turn c.before).before.loop-t.invariant.1
 
   pub same-lefts : lts.Need-shape_of-lefts-then-f (seek_callees n) (seek_at n) seek.Post Inv_loop μ_loop
-  same-lefts c = (did c.before).through-f.kept.1.1.1.1.1.1.1.0 ∙ (turn c.before).before.loop-t.invariant.2
+  same-lefts c = (did c.before).through-f.auto.lefts ∙ (turn c.before).before.loop-t.invariant.2
 
   pub same-rights : lts.Need-shape_of-rights-then-f (seek_callees n) (seek_at n) seek.Post Inv_loop μ_loop
-  same-rights c = (did c.before).through-f.kept.1.1.1.1.1.1.1.1.0 ∙ (turn c.before).before.loop-t.invariant.3
+  same-rights c = (did c.before).through-f.auto.rights ∙ (turn c.before).before.loop-t.invariant.3
 
   pub same-labels : lts.Need-shape_of-labels-then-f (seek_callees n) (seek_at n) seek.Post Inv_loop μ_loop
-  same-labels c = (did c.before).through-f.kept.1.1.1.1.1.1.1.1.1.0 ∙ (turn c.before).before.loop-t.invariant.4
+  same-labels c = (did c.before).through-f.auto.labels ∙ (turn c.before).before.loop-t.invariant.4
 
   pub same-marks : lts.Need-shape_of-marks-then-f (seek_callees n) (seek_at n) seek.Post Inv_loop μ_loop
-  same-marks c = (did c.before).through-f.kept.1.1.1.1.1.1.1.1.1.1.0 ∙ (turn c.before).before.loop-t.invariant.5
+  same-marks c = (did c.before).through-f.auto.marks ∙ (turn c.before).before.loop-t.invariant.5
 
   pub same_next : lts.Need-shape_of-next-then-f (seek_callees n) (seek_at n) seek.Post Inv_loop μ_loop
-  same_next c = (did c.before).through-f.kept.1.1.1.1.1.1.1.1.1.1.1.0 ∙ (turn c.before).before.loop-t.invariant.6
+  same_next c = (did c.before).through-f.auto.next ∙ (turn c.before).before.loop-t.invariant.6
 
   pub one_more : lts.Need-overflow_add-t (seek_callees n) (seek_at n) seek.Post Inv_loop μ_loop
   one_more c = let less = (turn c.before).loop-t-test.true in search rules
@@ -118,15 +115,14 @@ module _ (n : ℕ) where
       let at = turn told in
       let inv = at.before.loop-t.invariant in
       let through = (did told).through-f in
-      let lists = through.kept.1.1.1.1.1.1 in
       let a = (begun at.before.before.before).args in (
         turn_on _ a.len a.free _ a.left _ _ _ _ inv.0 _ _ _ at.loop-t-test.true through.ensures c.if-f.false,
-        lists.0 ∙ inv.1,
-        lists.1.0 ∙ inv.2,
-        lists.1.1.0 ∙ inv.3,
-        lists.1.1.1.0 ∙ inv.4,
-        lists.1.1.1.1.0 ∙ inv.5,
-        lists.1.1.1.1.1.0 ∙ inv.6,
+        through.auto.given ∙ inv.1,
+        through.auto.lefts ∙ inv.2,
+        through.auto.rights ∙ inv.3,
+        through.auto.labels ∙ inv.4,
+        through.auto.marks ∙ inv.5,
+        through.auto.next ∙ inv.6,
       )
 
   pub over : lts.Need-returns (seek_callees n) (seek_at n) seek.Post Inv_loop μ_loop

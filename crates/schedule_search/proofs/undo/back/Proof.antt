@@ -14,7 +14,7 @@ returns c =
     let rows = row.before.before.before.before in
     let a = rows.before.before.args in
     λ i.
-    record { tables = put.put_back.ensures i; records = record_put a.pair.now a.t a.k.row-1 i }
+    record { tables = put.put_back.ensures i; records = record_put a.pair.now a.t a.k.row i }
 
 pub back_spec : {M : Type 1} → statement M
 back_spec =

@@ -6,17 +6,13 @@ use Rattle.schedule_search.proofs.undo.step.Tie as tie
 -- The row is there.
 module _ (kept : tie.After-keep-saved) where
   abbrev start : tie.Start
-  start =
-      let words = kept.before.before.before.before in
-      let read = words.before.before.before.before in
-      let rows = read.before.before.before.before in
-      rows.before.before
+  start = kept.before.before.before.before.before.before.before.before
 
 lent_row : tie.Need-offset_bounds-pair-t-2
-lent_row c = let there = (start c.before).pre in search rules
+lent_row c = let there = (start c.before).requires in search rules
 
-index_row : tie.Need-bounds-1-move-row
-index_row c = let there = (start c.before).pre in search rules
+index_row : tie.Need-bounds-pair-t-2
+index_row c = let there = (start c.before).requires in search rules
 
 returns : tie.Need-returns
 returns c =
