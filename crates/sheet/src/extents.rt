@@ -64,8 +64,8 @@ fn gather(
     high: &mut [u16],
 ) -> bool
     requires { (w.slots ≤ 1023) × (from1 w.slots w.first ≡ true) }
-    ensures { told result low.exit.now high.new ≡ gathered w.rightward listed.now
-        (record { low = low.entry.now; high = high.old })
+    ensures { told result low.new high.new ≡ gathered w.rightward listed.now
+        (record { low = low.old; high = high.old })
         (ahead w lefts.now rights.now labels.now) }
 {
     let mut at = first_at(w.rightward);
@@ -104,9 +104,9 @@ pub fn extents(
     high: &mut [u16],
 ) -> bool
     requires { c.slots ≤ 1023 }
-    ensures { told result low.exit.now high.new ≡ extents (beginning_of c)
+    ensures { told result low.new high.new ≡ extents (beginning_of c)
         listed.now lefts.now rights.now labels.now
-        (record { low = low.entry.now; high = high.old }) }
+        (record { low = low.old; high = high.old }) }
 {
     let start = walk::begin(c);
     match start {

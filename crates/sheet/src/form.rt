@@ -79,7 +79,7 @@ fn points_outside(n: usize, rules: &[u32]) -> bool
 
 /// Over 32 labels, over 128 rules, a label listed twice, or a rule that points outside the list.
 pub fn malformed(listed: &[u32], rules: &[u32]) -> bool
-    ensures { result ≡ malformed (record { listed = listed.entry.now; rules = rules.now }) }
+    ensures { result ≡ malformed (record { listed = listed.now; rules = rules.now }) }
 {
     let n = listed.len();
     if 32 < n {

@@ -33,7 +33,7 @@ fn refused(number: u64) -> SheetReply
 fn unfit(c: Control, listed: &[u32], rules: &[u32], fits: bool) -> u64
     ensures { result ≡ unfit
         (control_sound c)
-        (malformed (record { listed = listed.entry.now; rules = rules.now }))
+        (malformed (record { listed = listed.now; rules = rules.now }))
         fits }
 {
     if !sound::control_sound(c) {
@@ -57,7 +57,7 @@ pub fn sheet(
 ) -> SheetReply
     ensures { (next : List ℕ) → result ≡ sheet
         (tables_of c lefts.now rights.now labels.now marks.now next)
-        (record { listed = listed.entry.now; rules = rules.now }) }
+        (record { listed = listed.now; rules = rules.now }) }
 {
     let t = Lengths {
         records: 0,
@@ -96,7 +96,7 @@ pub fn sheet_words(
     ensures { (next : List ℕ) → ◌≡◌ {A = Printed} (record { reply = result; words = lent.new })
         (sheet_words
         (tables_of c lefts.now rights.now labels.now marks.now next)
-        (record { listed = listed.entry.now; rules = rules.now })
+        (record { listed = listed.now; rules = rules.now })
         lent.old) }
 {
     let t = Lengths {

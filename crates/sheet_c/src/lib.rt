@@ -22,7 +22,7 @@ pub extern "C" fn zc_sheet(
 ) -> SheetReply
     ensures { (next : List ℕ) → result ≡ sheet
         (tables_of (control_of control.now) lefts.now rights.now labels.now marks.now next)
-        (record { listed = listed.entry.now; rules = rules.now }) }
+        (record { listed = listed.now; rules = rules.now }) }
 {
     sheet::border::zc_sheet(control, listed, rules, lefts, rights, labels, marks)
 }
@@ -42,7 +42,7 @@ pub extern "C" fn zc_sheet_words(
     ensures { (next : List ℕ) → ◌≡◌ {A = Printed} (record { reply = result; words = words.new })
         (sheet_words
         (tables_of (control_of control.now) lefts.now rights.now labels.now marks.now next)
-        (record { listed = listed.entry.now; rules = rules.now })
+        (record { listed = listed.now; rules = rules.now })
         words.old) }
 {
     sheet::border::zc_sheet_words(control, listed, rules, words, lefts, rights, labels, marks)

@@ -176,8 +176,8 @@ fn decides(
     why: u32,
 ) -> Onward
     ensures { ◌≡◌ {A = Started}
-        (record { task = record_of task.exit.now; upper = upper_of task.exit.now; reply = result.reply; touch = result.touch })
-        (started_by pooled slots (upper_of task.entry.now) (record_of task.entry.now) (judged (record_of task.entry.now) s why)) }
+        (record { task = record_of task.new; upper = upper_of task.new; reply = result.reply; touch = result.touch })
+        (started_by pooled slots (upper_of task.old) (record_of task.old) (judged (record_of task.old) s why)) }
 {
     let was = *task;
     if why != 0 {
@@ -215,9 +215,9 @@ pub fn settle_start(
     found: u64,
 ) -> Onward
     ensures { ◌≡◌ {A = Started}
-        (record { task = record_of task.exit.now; upper = upper_of task.exit.now; reply = result.reply; touch = result.touch })
-        (started_by pooled slots (upper_of task.entry.now) (record_of task.entry.now)
-        (settle_start (record_of task.entry.now) s act found)) }
+        (record { task = record_of task.new; upper = upper_of task.new; reply = result.reply; touch = result.touch })
+        (started_by pooled slots (upper_of task.old) (record_of task.old)
+        (settle_start (record_of task.old) s act found)) }
 {
     let late = refusal::late(found);
     if (act == 1) & (s.operation == 0) {
@@ -242,8 +242,8 @@ pub fn start_loaded(
     found: u64,
 ) -> Onward
     ensures { ◌≡◌ {A = Started}
-        (record { task = record_of task.exit.now; upper = upper_of task.exit.now; reply = result.reply; touch = result.touch })
-        (loaded_by pooled slots (upper_of task.entry.now) (record_of task.entry.now) s found) }
+        (record { task = record_of task.new; upper = upper_of task.new; reply = result.reply; touch = result.touch })
+        (loaded_by pooled slots (upper_of task.old) (record_of task.old) s found) }
 {
     let why = own_refusal(pooled, slots, task, s);
     if why != 0 {
@@ -279,9 +279,9 @@ pub extern "C" fn zc_settle_start(
     found: u64,
 ) -> Onward
     ensures { ◌≡◌ {A = Started}
-        (record { task = record_of task.exit.now; upper = upper_of task.exit.now; reply = result.reply; touch = result.touch })
-        (started_by pooled slots (upper_of task.entry.now) (record_of task.entry.now)
-        (settle_start (record_of task.entry.now) (start_of words.now) act found)) }
+        (record { task = record_of task.new; upper = upper_of task.new; reply = result.reply; touch = result.touch })
+        (started_by pooled slots (upper_of task.old) (record_of task.old)
+        (settle_start (record_of task.old) (start_of words.now) act found)) }
 {
     let asked = *words;
     let s = start_of(asked);

@@ -32,9 +32,9 @@ pub extern "C" fn zc_settle_plan(
     found: u64,
 ) -> Onward
     ensures fact { ◌≡◌ {A = Replied}
-        (record { task = record_of task.exit.now; upper = upper_of task.exit.now; reply = result.reply })
-        (replied (upper_of task.entry.now)
-        (settle pooled slots (record_of task.entry.now) (heard_as (call_of task.entry.now) found))) }
+        (record { task = record_of task.new; upper = upper_of task.new; reply = result.reply })
+        (replied (upper_of task.old)
+        (settle pooled slots (record_of task.old) (heard_as (call_of task.old) found))) }
     ensures touch_value { result.touch ≡ plan pooled slots (call_of task.new) }
 {
     touch::zc_settle_plan(slots, pooled, task, found)
@@ -66,9 +66,9 @@ pub extern "C" fn zc_settle_start(
     found: u64,
 ) -> Onward
     ensures { ◌≡◌ {A = Started}
-        (record { task = record_of task.exit.now; upper = upper_of task.exit.now; reply = result.reply; touch = result.touch })
-        (started_by pooled slots (upper_of task.entry.now) (record_of task.entry.now)
-        (settle_start (record_of task.entry.now) (start_of words.now) act found)) }
+        (record { task = record_of task.new; upper = upper_of task.new; reply = result.reply; touch = result.touch })
+        (started_by pooled slots (upper_of task.old) (record_of task.old)
+        (settle_start (record_of task.old) (start_of words.now) act found)) }
 {
     touch::start::zc_settle_start(slots, pooled, task, words, act, found)
 }

@@ -20,8 +20,8 @@ pub extern "C" fn zc_start_loaded(
     anchor: u64,
 ) -> Onward
     ensures { ◌≡◌ {A = Started}
-        (record { task = record_of task.exit.now; upper = upper_of task.exit.now; reply = result.reply; touch = result.touch })
-        (loaded_by pooled slots (upper_of task.entry.now) (record_of task.entry.now) (start_of words.now) anchor) }
+        (record { task = record_of task.new; upper = upper_of task.new; reply = result.reply; touch = result.touch })
+        (loaded_by pooled slots (upper_of task.old) (record_of task.old) (start_of words.now) anchor) }
 {
     let asked = *words;
     let s = start::start_of(asked);
@@ -38,9 +38,9 @@ pub extern "C" fn zc_settle_unasked(
     found: u64,
 ) -> Onward
     ensures fact { ◌≡◌ {A = Replied}
-        (record { task = record_of task.exit.now; upper = upper_of task.exit.now; reply = result.reply })
-        (replied (upper_of task.entry.now)
-        (settle_unasked pooled slots (record_of task.entry.now) (heard_as (call_of task.entry.now) found))) }
+        (record { task = record_of task.new; upper = upper_of task.new; reply = result.reply })
+        (replied (upper_of task.old)
+        (settle_unasked pooled slots (record_of task.old) (heard_as (call_of task.old) found))) }
     ensures touch_value { result.touch ≡ plan_unasked pooled slots (call_of task.new) }
 {
     touch::settle_unasked(pooled, slots, task, found)
