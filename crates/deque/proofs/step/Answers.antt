@@ -12,8 +12,8 @@ returns-then-why-ne0 c = rw c.refuse.ensures (refused _ _ _ _ _ _ _ _ _ c.admit_
 pub offset_bounds-records-task : goal.offset_bounds-records-task
 offset_bounds-records-task c =
     let here : c.args.task < length c.args.records.now =
-        there _ _ _ c.args.lefts.now c.args.rights.now c.args.labels.now c.args.marks.now c.args.next.now
-        (sym c.admit_step-why.ensures ∙ c.if-why-ne0.false) in
+    there _ _ _ c.args.lefts.now c.args.rights.now c.args.labels.now c.args.marks.now c.args.next.now
+    (sym c.admit_step-why.ensures ∙ c.if-why-ne0.false) in
     search rules
 
 pub bounds-records-task : goal.bounds-records-task

@@ -13,19 +13,19 @@ returns-then-left-lt-HEAD-clause-value c =
 pub returns-then-left-n-clause-value : goal.returns-then-left-n-clause-value
 returns-then-left-n-clause-value c =
     c.no_field-then-left-n.ensures.0
-        ∙ sym
-        (found-cut _ _ _ c.if-left-lt-HEAD.false _ _ c.byte_at-tag.ensures.0 c.two_at-len.ensures.0 (sym c.if-is_formed.ensures)
-        (omega arith))
+    ∙ sym
+    (found-cut _ _ _ c.if-left-lt-HEAD.false _ _ c.byte_at-tag.ensures.0 c.two_at-len.ensures.0 (sym c.if-is_formed.ensures)
+    (omega arith))
 
 pub returns-then-is_formed-clause-value : goal.returns-then-is_formed-clause-value
 returns-then-is_formed-clause-value c =
     rw c.content-field.ensures
-        (sym
-        (found-whole _ _ _ c.if-left-lt-HEAD.false _ _ c.byte_at-tag.ensures.0 c.two_at-len.ensures.0 (sym c.if-is_formed.ensures)
-        (omega arith)))
+    (sym
+    (found-whole _ _ _ c.if-left-lt-HEAD.false _ _ c.byte_at-tag.ensures.0 c.two_at-len.ensures.0 (sym c.if-is_formed.ensures)
+    (omega arith)))
 
 pub returns-clause-value : goal.returns-clause-value
 returns-clause-value c =
     c.no_field-2.ensures.0
-        ∙ sym
-        (found-wrong _ _ _ c.if-left-lt-HEAD.false _ _ c.byte_at-tag.ensures.0 c.two_at-len.ensures.0 (sym c.if-is_formed.ensures))
+    ∙ sym
+    (found-wrong _ _ _ c.if-left-lt-HEAD.false _ _ c.byte_at-tag.ensures.0 c.two_at-len.ensures.0 (sym c.if-is_formed.ensures))

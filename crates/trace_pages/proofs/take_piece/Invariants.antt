@@ -6,7 +6,7 @@ use Rattle.trace_pages.specs.Some.{Some}
 use Rattle.trace_pages.proofs.take_piece.Given as goal
 
 abbrev pub invariant-loop-q : goal.invariant-loop-q
-invariant-loop-q g l = 
+invariant-loop-q g l =
     ((pages_of l.bytes (page_of l.q l.out l.rows l.lefts l.rights l.labels l.marks l.next)).page
     ≡ (pages_of l.bytes
     (page_of l.initial.q l.initial.out l.initial.rows l.initial.lefts l.initial.rights l.initial.labels l.initial.marks l.initial.next)).page)

@@ -5,7 +5,7 @@ use Rattle.trace_replay.specs.Feed.{feed_page}
 use Rattle.trace_replay.proofs.feed.Given as goal
 
 abbrev pub invariant-loop-q : goal.invariant-loop-q
-invariant-loop-q l = 
+invariant-loop-q l =
     feed_page l.bytes (page_of l.q l.out l.rows l.lefts l.rights l.labels l.marks l.next)
     ≡ feed_page l.bytes
     (page_of l.initial.q l.initial.out l.initial.rows l.initial.lefts l.initial.rights l.initial.labels l.initial.marks l.initial.next)

@@ -13,16 +13,16 @@ pub returns-then-p-eq-SEVEN-clause-put : goal.returns-then-p-eq-SEVEN-clause-put
 unfolding fault_line
 returns-then-p-eq-SEVEN-clause-put c =
     rw (ne_eqb _ 2 c.if-p-eq-LARGE.false, eq-eqb _ 3 c.if-p-eq-SEVEN.true)
-        (put-fits _ c.write_text-then-p-eq-SEVEN.ensures.put (search rules))
+    (put-fits _ c.write_text-then-p-eq-SEVEN.ensures.put (search rules))
 
 pub returns-then-p-eq-UNLABELLED-clause-put : goal.returns-then-p-eq-UNLABELLED-clause-put
 unfolding fault_line
 returns-then-p-eq-UNLABELLED-clause-put c =
     rw (ne_eqb _ 2 c.if-p-eq-LARGE.false, ne_eqb _ 3 c.if-p-eq-SEVEN.false, eq-eqb _ 4 c.if-p-eq-UNLABELLED.true)
-        (put-fits _ c.write_text-then-p-eq-UNLABELLED.ensures.put (search rules))
+    (put-fits _ c.write_text-then-p-eq-UNLABELLED.ensures.put (search rules))
 
 pub returns-clause-put : goal.returns-clause-put
 unfolding fault_line
 returns-clause-put c =
     rw (ne_eqb _ 2 c.if-p-eq-LARGE.false, ne_eqb _ 3 c.if-p-eq-SEVEN.false, ne_eqb _ 4 c.if-p-eq-UNLABELLED.false)
-        c.put_wanted.ensures.put
+    c.put_wanted.ensures.put

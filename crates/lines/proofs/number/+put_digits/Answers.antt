@@ -9,4 +9,4 @@ returns-then-n-lt10000-clause-put t c = rw (group_last _ _ c.if-n-lt10000.true) 
 pub returns-clause-put : goal.returns-clause-put
 returns-clause-put t c =
     rw (group_more _ _ c.if-more-eq0.false c.if-n-lt10000.false)
-        (put-more (put-more c.put_digits-a.ensures.put c.put_pair-b.ensures.put) c.put_pair.ensures.put)
+    (put-more (put-more c.put_digits-a.ensures.put c.put_pair-b.ensures.put) c.put_pair.ensures.put)

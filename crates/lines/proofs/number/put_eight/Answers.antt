@@ -9,4 +9,4 @@ returns-then-n-lt10000-clause-put c = rw (decimal-room 3 4 _ c.if-n-lt10000.true
 pub returns-clause-put : goal.returns-clause-put
 returns-clause-put c =
     rw (decimal_four 3 _ c.if-n-lt10000.false)
-        (put-more (put-more c.put_some-a.ensures.put c.put_pair-b.ensures.put) c.put_pair.ensures.put)
+    (put-more (put-more c.put_some-a.ensures.put c.put_pair-b.ensures.put) c.put_pair.ensures.put)

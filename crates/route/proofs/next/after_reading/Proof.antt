@@ -43,8 +43,8 @@ several : (j : tie.Joined-a) → (let args = j.before.before.args in
 several j =
     let args = j.before.before.args in
     elim j.if-a.branch [
-      then-a+else-a-eq0+else-kind-eq1 w ↦ no_label args.kind args.a w.if-a-eq0.false w.if-kind-eq1.false
-    | else-a w ↦ apart args.kind args.a w.if-a.false
+      | then-a+else-a-eq0+else-kind-eq1 w ↦ no_label args.kind args.a w.if-a-eq0.false w.if-kind-eq1.false
+      | else-a w ↦ apart args.kind args.a w.if-a.false
     ]
 
 returns-3 : tie.Need-returns-then-a-eq0-2

@@ -5,7 +5,7 @@ use Rattle.trace_field.specs.{Run.each_of, Page.{page_of, operates}}
 use Rattle.trace_field.proofs.acts.each.Given as goal
 
 abbrev pub invariant-loop-i : goal.invariant-loop-i
-invariant-loop-i l = 
+invariant-loop-i l =
     (l.q.to + 128 * (l.end - l.i) ≤ length l.initial.out)
     × (operates (page_of l.q l.out l.rows l.lefts l.rights l.labels l.marks l.next) (each_of l.op (slice l.i l.end l.bytes))
     ≡ operates
