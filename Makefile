@@ -1,20 +1,14 @@
 # The library as one archive, and its installation.
 #
-#     make                        proves the crates and writes target/lib/libzeppolecape.a (some ten minutes, once)
+#     make                        proves the crates and writes target/lib/libzeppolecape.a (long, once; in seconds after `rt ci`)
 #     make install PREFIX=/opt/zc headers, archive, pkg-config file and CMake package; DESTDIR is honoured
 #     make uninstall PREFIX=/opt/zc
 #
 # The tests are .ci/run and tests/README.md's commands.
 
-# The crates that export calls. All are proved first; then each is compiled for itself (`rt staticlib NAME`),
-# two at a time, the one that takes longest first. The library holds them all, and a program takes in only those whose calls it makes.
-EXPORTS = touch touch_call join shelf sheet serve capi schedule capi_run audit find capi_record waiting
-
-# Two of `rt` in one folder overwrite each other's notes on what is proved, and one may then find a proved crate
-# unproved. So each has a folder, with links to the crates, to what is proved of them, and to where the archives go.
-ALONE = mkdir -p target/alone/$$0/target && cd target/alone/$$0 && ln -sfn ../../../crates ../../../crates.txt . && \
-	ln -sfn ../../../rlib ../../../stamp ../../../staticlib target && begun=$$(date +%s) && \
-	rt staticlib $$0 && echo "rt: $$0 compiled ($$(( $$(date +%s) - begun )) s)"
+# The static libraries, one for each archive; the one that takes longest first. The library holds what all of them hold, under the names
+# of the crates whose calls they export, and a program takes in only those whose calls it makes.
+EXPORTS = touch_c touch_call join_c shelf_c sheet_c serve_c capi_c schedule_c capi_run_c audit_c find_c capi_record_c waiting_c
 
 PREFIX ?= /usr/local
 LIBRARY ?= target/lib/libzeppolecape.a
@@ -35,15 +29,13 @@ all: $(LIBRARY)
 exports:
 	@for name in $(EXPORTS); do echo "$$name"; done
 
-target/lib/libzeppolecape.a: crates.txt $(shell find crates -name '*.rt' -o -name '*.antt')
+target/lib/libzeppolecape.a: crates.txt $(shell find crates -name out -prune -o \( -name '*.rt' -o -name '*.antt' \) -print)
 	@command -v rt >/dev/null || { echo "make: the Rattle toolchain (rt) is not on the PATH; see README.md, Requirements" >&2; exit 1; }
-	@echo "proving the library, once:"
-	@tools/progress proved $(EXPORTS) -- rt check $(EXPORTS)
-	@mkdir -p target/staticlib
-	@echo "compiling it:"
-	@tools/progress compiled $(EXPORTS) -- sh -c 'printf "%s\n" $(EXPORTS) | xargs -P 2 -n 1 sh -c "$$0"' '$(ALONE)'
+	@echo "proving the library, once, and compiling it:"
+	@tools/progress proved $(EXPORTS) -- tools/build $(EXPORTS)
 	rm -rf target/lib && mkdir -p target/lib/members
-	cd target/lib/members && for name in $(EXPORTS); do ar x ../../staticlib/lib$$name.a || exit 1; done
+	cd target/lib/members && for name in $(EXPORTS); do \
+		ar x ../../../crates/$$name/out/lib$$name.a && { [ "$$name" = "$${name%_c}" ] || mv $$name.o $${name%_c}.o; } || exit 1; done
 	ar rcsD $@ target/lib/members/*.o
 
 install: $(LIBRARY)

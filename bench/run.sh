@@ -86,8 +86,8 @@ measure_facts() { # lines of NAME NUMBER
 }
 
 trace_line() { # the program trace and the second program: nanoseconds a step
-    [ -x "$root/target/bin/trace" ] || { echo "bench: no target/bin/trace, its line is left out; build it with: rt check trace" >&2; return; }
-    "$root/tests/throughput.sh" "$root/target/bin/trace" >"$work/throughput"
+    [ -x "$root/crates/trace/out/trace" ] || { echo "bench: no crates/trace/out/trace, its line is left out; build it with: tools/build trace" >&2; return; }
+    "$root/tests/throughput.sh" "$root/crates/trace/out/trace" >"$work/throughput"
     awk '$1 == "program" { ours = 1e9 / $3 } $1 == "reference" { theirs = 1e9 / $3 }
          END { printf "trace\t\t%.2f\t%.2f\n", ours, theirs }' "$work/throughput"
 }

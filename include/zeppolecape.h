@@ -661,7 +661,7 @@ static inline zc_reply zc_queue_step(const zc_queue *queue, size_t task)
 
 /*
  * ZC_CORE_ONLY, defined before this header, leaves out the wrappers of all but the openings, the
- * starts, zc_step and zc_report: for one who links an archive of these alone (`rt staticlib capi`)
+ * starts, zc_step and zc_report: for one who links an archive of these alone (`rt lib` in crates/capi_c)
  * with a compiler that keeps unused inline functions.
  */
 #ifndef ZC_CORE_ONLY

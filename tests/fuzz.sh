@@ -5,7 +5,7 @@
 #     tests/fuzz.sh [SECONDS [TARGET..]]     600 seconds in all; the targets are tables, owned, runs and histories
 #     tests/fuzz.sh --minimise [TARGET..]    the corpus of each made as small as it can be, with the same coverage
 #
-# It wants `make`, target/bin/trace and verdict, and Debian's clang with libclang-rt-14-dev. A finding is kept as
+# It wants `make`, the programs trace and verdict (tools/build trace verdict), and Debian's clang with libclang-rt-14-dev. A finding is kept as
 # target/fuzz/found/TARGET-*; `FUZZ=TARGET target/fuzz/x86_64-unknown-linux-gnu/release/fuzz FILE` shows it again.
 set -u -o pipefail
 cd "$(dirname "$0")/.." || exit 2

@@ -26,6 +26,7 @@ class Fn:
         s.known=set(f for f in s.fields.values() if f)
         s.asked={n[1]:a[1] for n,a in zip(v['needs'],v['asked_at'])}
         s.order=[n[1] for n in v['needs']]
+        s.nloops=len(v['loops'])
     def pos(s,root,field):
         p=root;k=0
         while p is not None:
@@ -215,6 +216,10 @@ def fixfile(fn,t):
             if pm and res and pm.group(1) in d:
                 k=fn.dist(d[pm.group(1)],res)
                 if k is not None: blk=re.sub(r"((?:\.before)+)$",B(k),blk)
+            elif res and re.match(r"^\s*"+re.escape(m.group(2))+r"[^=]*=\s+(?:let "+NAME+r" = "+NAME+r"(?:\.before)* in\s+)+"+NAME+r"(?:\.before)*\s*$",blk) and re.search(r"=\s+let "+NAME+r" = ("+NAME+r")",blk).group(1) in d:
+                rv=re.search(r"=\s+let "+NAME+r" = ("+NAME+r")",blk).group(1)
+                k=fn.dist(d[rv],res)
+                if k is not None: blk=blk[:blk.index('=')]+f"= {rv}{B(k)}"
             elif res and re.search(r"= let ("+NAME+r") = ("+NAME+r")(?:\.before)* in \1(?:\.before)*$",blk):
                 mm=re.search(r"= let ("+NAME+r") = ("+NAME+r")(?:\.before)* in \1(?:\.before)*$",blk)
                 if mm.group(2) in d and fn.dist(d[mm.group(2)],res) is not None:
@@ -222,8 +227,29 @@ def fixfile(fn,t):
             else: blk=fixbody(fn,blk,d)
             # spec arguments
             if m.group(2).endswith('_spec') and 'tie.spec' in blk:
-                al=re.split(r"(?=\n\s+\(λ|\n\s+"+NAME+r"(?:\)|$|\n))",blk)
-                pass
+                k=blk.index('tie.spec')+8
+                res2=blk[:k]; args=[]; q=k; depth=0; cur=''
+                while q<len(blk):
+                    ch=blk[q]
+                    if depth==0 and ch==')': break
+                    if ch in '([{': depth+=1
+                    if ch in ')]}': depth-=1
+                    if depth==0 and ch.isspace():
+                        if cur.strip(): args.append(cur); cur=''
+                        cur+=ch
+                    else: cur+=ch
+                    q+=1
+                if cur.strip(): args.append(cur)
+                skip=2*fn.nloops
+                out2=[]
+                for n_,a_ in enumerate(args):
+                    mm=re.match(r"^\s*\(λ ("+NAME+r")\b",a_)
+                    if mm and n_>=skip and n_-skip<len(fn.order) and mm.group(1)!='_' :
+                        pl=fn.asked.get(fn.order[n_-skip])
+                        if pl: a_=fixbody(fn,a_,{**roots_now(),mm.group(1):pl})
+                    out2.append(a_)
+                blk=res2+''.join(out2)+blk[q:]
+                if len(args)-skip!=len(fn.order): print('  spec arguments:',len(args)-skip,'needs:',len(fn.order),fn.order)
             out.append(blk); i=j; continue
         out.append(L); i+=1
     return '\n'.join(out)
@@ -243,7 +269,10 @@ def run(crate,only=None):
         for a,_,fs in os.walk(os.path.join(folder,'Proof')): ps+=[os.path.join(a,x) for x in fs]
         for p in ps:
             if not os.path.exists(p): continue
-            t=open(p).read(); n=fixfile(fn,t)
+            t=open(p).read()
+            which=key[len(pre):].split('.Lts')[1]
+            if which and not re.search(r'\.Lts'+re.escape(which)+r'(?![\w-])',t): continue
+            n=fixfile(fn,t)
             if n!=t: open(p,'w').write(n); print('fixed',p)
 if __name__=='__main__':
     for c in sys.argv[1:]: run(c)

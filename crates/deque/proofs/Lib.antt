@@ -1,5 +1,1 @@
-pub mod Admission
-pub mod Engine
-pub mod Frame
-pub mod Stored
-pub mod Walk
+pub mod Said

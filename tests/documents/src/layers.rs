@@ -22,6 +22,7 @@ pub fn listed() -> Vec<(String, Vec<String>)> {
     lines
         .filter_map(|line| line.split_once(':'))
         .map(|(name, needs)| {
+            let name = name.trim_end_matches(" staticlib");
             (name.to_string(), needs.split_whitespace().map(str::to_string).collect())
         })
         .collect()

@@ -23,7 +23,7 @@ pub fn files() -> Vec<String> {
             let (path, name) = (entry.path(), entry.file_name());
             let name = name.to_string_lossy();
             if path.is_dir() {
-                if !["target", ".git", "log", "build"].contains(&&*name) {
+                if !["target", "out", ".git", "log", "build"].contains(&&*name) {
                     open.push(path);
                 }
             } else {

@@ -21,6 +21,9 @@ const ENDINGS: [&str; 15] = [
     ".edit", ".view", ".history",
 ];
 
+/// Lists of names that may be gone.
+const NOT_SOURCES: [&str; 2] = ["tests/documents/allowed.txt", "tools/respelled.txt"];
+
 #[derive(Default)]
 pub struct Names {
     /// Files and folders, and files without their endings; and what each ends in, part by part.
@@ -38,7 +41,7 @@ impl Names {
         let mut names = Names { files: files.to_vec(), ..Names::default() };
         for (at, path) in files.iter().enumerate() {
             names.path(path);
-            if !super::is_document(path) && path != "tests/documents/allowed.txt" {
+            if !super::is_document(path) && !NOT_SOURCES.contains(&path.as_str()) {
                 names.source(at, path, &content(path));
             }
         }
@@ -174,7 +177,8 @@ impl Names {
         let wanted = path.trim_start_matches("./").trim_end_matches('/').replace("NAME", "*");
         let wanted = wanted.as_str();
         let outside = ["target/", "/opt/rattle", "/dev/"];
-        if wanted == "target" || outside.iter().any(|top| wanted.starts_with(top)) {
+        let built = wanted.starts_with("crates/") && wanted.split('/').nth(2) == Some("out");
+        if wanted == "target" || built || outside.iter().any(|top| wanted.starts_with(top)) {
             return true;
         }
         let Some((before, behind)) = wanted.split_once('*') else {

@@ -266,7 +266,7 @@ fn dependencies_are_direct() {
         let text: String =
             own.filter(|path| !path.contains("/must-fail/")).map(|path| content(path)).collect();
         for need in needs {
-            let forms = [format!("{need}::"), format!("Rattle·{need}."), format!("Rattle·{need}·")];
+            let forms = [format!("{need}::"), format!("Rattle.{need}.")];
             let named = forms.iter().any(|form| text.contains(form.as_str()));
             if named == HANDED_ON.contains(&(&name, &need)) {
                 found.push(format!("{name} names {need}: {named}"));
@@ -274,4 +274,46 @@ fn dependencies_are_direct() {
         }
     }
     none(found);
+}
+
+/// The outside calls in the Rattle sources of a crate: their names, and all from there to their bodies, each word apart.
+fn outside_calls(folder: &str) -> Vec<(String, String)> {
+    let sources: Vec<String> =
+        files().into_iter().filter(|path| path.starts_with(folder) && path.ends_with(".rt")).collect();
+    let mut found = Vec::new();
+    for path in sources {
+        for after in content(&path).split("fn zc_").skip(1) {
+            let head = after.split("\n{\n").next().unwrap_or(after);
+            let words: Vec<&str> = head.split_whitespace().collect();
+            let name = head.split('(').next().unwrap_or(head);
+            found.push((format!("zc_{name}"), words.join(" ")));
+        }
+    }
+    found
+}
+
+#[test]
+fn what_is_exported_has_the_contract_of_its_library() {
+    let exporting: Vec<String> = content("crates.txt")
+        .lines()
+        .filter_map(|line| line.split_once(" staticlib:"))
+        .map(|(name, _)| name.to_string())
+        .collect();
+    let made = content("Makefile");
+    let made = made.lines().find_map(|line| line.strip_prefix("EXPORTS = ")).expect("EXPORTS");
+    assert_eq!(made.split(' ').collect::<Vec<_>>(), exporting);
+    let mut wrong = Vec::new();
+    for (exports, library) in exporting.iter().filter_map(|name| Some((name, name.strip_suffix("_c")?))) {
+        let proved = outside_calls(&format!("crates/{library}/src/"));
+        let exported = outside_calls(&format!("crates/{exports}/src/"));
+        if proved.len() != exported.len() {
+            wrong.push(format!("{library} has {} calls, {exports} {}", proved.len(), exported.len()));
+        }
+        for (name, contract) in exported {
+            if !proved.contains(&(name.clone(), contract)) {
+                wrong.push(format!("{name} has another contract in {exports} than in {library}"));
+            }
+        }
+    }
+    none(wrong);
 }

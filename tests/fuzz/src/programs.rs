@@ -12,11 +12,12 @@ pub struct Said {
     pub well: bool,
 }
 
-/// `target/bin/NAME`, or what the variable of its name in capitals says, an absolute path.
+/// `crates/NAME/out/NAME`, or what the variable of its name in capitals says, an absolute path.
 fn program(name: &str) -> PathBuf {
-    let built = Path::new(env!("CARGO_MANIFEST_DIR")).join("../../target/bin").join(name);
+    let crates = Path::new(env!("CARGO_MANIFEST_DIR")).join("../../crates");
+    let built = crates.join(name).join("out").join(name);
     let program = std::env::var_os(name.to_uppercase()).map_or(built, PathBuf::from);
-    assert!(program.is_file(), "no program {}; build it with: rt check {name}", program.display());
+    assert!(program.is_file(), "no program {}; build it with: tools/build {name}", program.display());
     program
 }
 

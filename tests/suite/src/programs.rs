@@ -17,21 +17,21 @@ pub fn root() -> PathBuf {
 }
 
 /// A program under test: the file that a variable names by an absolute path, else the one that
-/// `rt check` builds.
+/// `rt ci` and `rt run` build.
 fn under_test(variable: &str, name: &str) -> PathBuf {
-    let built = || root().join("target/bin").join(name);
+    let built = || root().join("crates").join(name).join("out").join(name);
     let program = env::var_os(variable).map_or_else(built, PathBuf::from);
     assert!(program.is_absolute(), "{variable} is not an absolute path: {}", program.display());
-    assert!(program.is_file(), "no program {}; build it with: rt check {name}", program.display());
+    assert!(program.is_file(), "no program {}; build it with: tools/build {name}", program.display());
     program
 }
 
-/// The program under test: `TRACE`, or `target/bin/trace`.
+/// The program under test: `TRACE`, or `crates/trace/out/trace`.
 pub fn trace() -> PathBuf {
     under_test("TRACE", "trace")
 }
 
-/// The program that judges histories: `VERDICT`, or `target/bin/verdict`.
+/// The program that judges histories: `VERDICT`, or `crates/verdict/out/verdict`.
 pub fn verdict() -> PathBuf {
     under_test("VERDICT", "verdict")
 }

@@ -1,4 +1,4 @@
-//! The sources as they must be laid out, by `rt fmt --check`, and the
+//! The sources as they must be laid out, by `rattle fmt --check`, and the
 //! documentation of the Rust crate without a warning.
 
 use std::process::ExitCode;
@@ -10,7 +10,9 @@ fn holds(line: &str) -> Verdict {
 
 fn main() -> ExitCode {
     let mut checks = Checks::of("layout");
-    checks.add("rt fmt --check", || holds("rt fmt --check"));
+    checks.add("rattle fmt --check", || {
+        holds("find crates -name out -prune -o -type f '(' -name '*.rt' -o -name '*.antt' ')' -print0 | xargs -0 rattle fmt --check")
+    });
     checks.add("the Rust crate is documented", || {
         holds("RUSTDOCFLAGS='-D warnings' cargo doc --quiet --offline --locked -p zeppolecape --no-deps")
     });

@@ -12,33 +12,33 @@ use Rattle.capi.proofs.look.Statement.{statement}
 use borrow.Author.Rules.{rules}
 use Rattle.capi.proofs.look.Tie as tie
 
-abbrev invariant-loop : tie.invariant-loop
+abbrev invariant-loop : tie.invariant-loop-i
 invariant-loop records n busy₀ retries₀ i₀ busy retries i =
     (i ≤ n) × (busy ≡ busy_in i (records_of records)) × (retries ≡ counts_in i (records_of records))
 
-abbrev decreases-loop : tie.decreases-loop
+abbrev decreases-loop : tie.decreases-loop-i
 decreases-loop records n busy₀ retries₀ i₀ busy retries i = n - i
 
 -- No more than i are busy, and i is below 16.
-add_busy : tie.Need-overflow-add-busy invariant-loop decreases-loop
+add_busy : tie.Need-overflow_add-busy invariant-loop decreases-loop
 add_busy c =
     let test = c.before.before.before in
-    let turn = test.before.loop in
+    let turn = test.before.loop-i in
     let first = test.before.before in
-    let less = test.loop-test.true in
+    let less = test.loop-i-test.true in
     let most = busy_le turn.i (records_of first.args.records.now) in
-    let one = one_at_most (not (eqb c.before.call_of.result.place 0)) in
+    let one = one_at_most (not (eqb c.before.call_of-r.result.place 0)) in
     record { fits = omega (arith, less, most, one, turn.invariant.1, first.requires.1) }
 
-loop-again : tie.Need-loop-preserved invariant-loop decreases-loop
+loop-again : tie.Need-loop-i-preserved invariant-loop decreases-loop
 unfolding record_of
 loop-again c =
     let test = c.before.before.before.before in
-    let turn = test.before.loop in
+    let turn = test.before.loop-i in
     let first = test.before.before in
-    let less = test.loop-test.true in
+    let less = test.loop-i-test.true in
     let rs = records_of first.args.records.now in
-    let called = c.before.before.call_of in
+    let called = c.before.before.call_of-r in
     let own = c.retries_of.ensures ∙ ap (λ (r : Record). r.retries) (record_read _ _) in (
       omega arith,
       ap (λ (k : ℕ). k + bool_byte (not (eqb called.result.place 0))) turn.invariant.1
@@ -54,8 +54,8 @@ loop-again c =
 
 returns : tie.Need-returns invariant-loop decreases-loop
 returns c =
-    let past = c.loop-test.false in
-    let turn = c.before.loop in
+    let past = c.loop-i-test.false in
+    let turn = c.before.loop-i in
     let below = turn.invariant.0 in
     let rs = records_of c.before.before.args.records.now in
     let e : turn.i ≡ c.before.before.args.n = omega arith in
@@ -68,8 +68,8 @@ look_spec =
     invariant-loop
     decreases-loop
     (λ c. (omega arith, sym (busy-none (records_of c.args.records.now)), counts-none (records_of c.args.records.now)))
-    (λ c. record { fits = omega (arith, c.loop-test.true, c.before.before.requires.1) })
-    (λ c. omega (arith, c.loop-test.true, c.before.before.requires.0))
+    (λ c. record { fits = omega (arith, c.loop-i-test.true, c.before.before.requires.1) })
+    (λ c. omega (arith, c.loop-i-test.true, c.before.before.requires.0))
     (λ c κs. search rules)
     (λ c. search rules)
     add_busy

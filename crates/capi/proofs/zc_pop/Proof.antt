@@ -10,7 +10,7 @@ returns c =
     let did = c.before.before in
     let known = did.before.before.before.before in
     let first = known.before.before.before in
-    answered is_moved _ _ _ _ (uppers_of first.args.records.now) _ _ _ did.pop.ensures.0 did.pop.ensures.1 c.reply.ensures
+    answered is_moved _ _ _ _ (uppers_of first.args.records.now) _ _ _ did.pop-o.ensures.0 did.pop-o.ensures.1 c.reply.ensures
 
 pub zc_pop_spec : {M : Type 1} → statement M
 zc_pop_spec = tie.close (tie.spec (λ c κs. search rules) (λ c κs. search rules) (λ c. search rules) returns)

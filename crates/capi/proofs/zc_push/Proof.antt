@@ -12,7 +12,7 @@ returns c =
     let lent = did.before.before.before.before in
     let known = lent.before.before.before.before in
     let first = known.before in
-    answered is_moved _ _ _ _ (uppers_of first.args.records.now) _ _ _ did.push.ensures.0 did.push.ensures.1 c.reply.ensures
+    answered is_moved _ _ _ _ (uppers_of first.args.records.now) _ _ _ did.push-o.ensures.0 did.push-o.ensures.1 c.reply.ensures
 
 pub zc_push_spec : {M : Type 1} → statement M
 zc_push_spec =

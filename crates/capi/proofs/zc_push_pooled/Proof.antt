@@ -10,7 +10,7 @@ returns c =
     let did = c.before.before in
     let known = did.before.before.before.before in
     let first = known.before.before.before in
-    answered is_moved _ _ _ _ (uppers_of first.args.records.now) _ _ _ did.push_pooled.ensures.0 did.push_pooled.ensures.1 c.reply.ensures
+    answered is_moved _ _ _ _ (uppers_of first.args.records.now) _ _ _ did.push_pooled-o.ensures.0 did.push_pooled-o.ensures.1 c.reply.ensures
 
 pub zc_push_pooled_spec : {M : Type 1} → statement M
 zc_push_pooled_spec = tie.close (tie.spec (λ c κs. search rules) (λ c κs. search rules) (λ c. search rules) returns)

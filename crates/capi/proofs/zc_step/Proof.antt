@@ -14,7 +14,7 @@ returns c =
     let known = lent.before.before.before.before in
     let links = known.before.before.before in
     let first = links.before.before in
-    answered ends_call Step _ _ _ (uppers_of first.args.records.now) _ _ _ did.step.ensures.0 did.step.ensures.1 c.reply.ensures
+    answered ends_call Step _ _ _ (uppers_of first.args.records.now) _ _ _ did.step-o.ensures.0 did.step-o.ensures.1 c.reply.ensures
 
 pub zc_step_spec : {M : Type 1} → statement M
 zc_step_spec =

@@ -12,15 +12,15 @@ module _ (a : tie.Start) where
   abbrev q : Tables
   q = tables_of a.args.c a.args.lefts.now a.args.rights.now a.args.labels.now a.args.marks.now a.args.next.now
 
-returns : tie.Need-returns
+returns : tie.Need-returns-then-why-ne0
 unfolding rows_fit lengths_fit step_lent
 returns c =
     let told = c.before.before in
     let sized = told.before.before.before.before in
     let a = sized.before.before in
-    rw c.refuse.ensures (turned_away (q a) alone a.args.t _ told.admit_alone.ensures c.before.if1.true)
+    rw c.refuse-outcome.ensures (turned_away (q a) alone a.args.t _ told.admit_alone-why.ensures c.before.if-why-ne0.true)
 
-returns-2 : tie.Need-returns-2
+returns-2 : tie.Need-returns
 unfolding rows_fit lengths_fit step_lent
 returns-2 c =
     let marks = c.before.before.before.before in
@@ -31,7 +31,7 @@ returns-2 c =
     let told = left.before in
     let sized = told.before.before.before.before in
     let a = sized.before.before in
-    moved.step_by_value.ensures ∙ admitted (q a) alone a.args.t (sym told.admit_alone.ensures ∙ left.if1.false)
+    moved.step_by_value.ensures ∙ admitted (q a) alone a.args.t (sym told.admit_alone-why.ensures ∙ left.if-why-ne0.false)
 
 pub step_alone_spec : {M : Type 1} → statement M
 step_alone_spec =

@@ -13,8 +13,8 @@ use Rattle.schedule_search.proofs.through.Reads as through
 use Rattle.schedule_search.proofs.+seek_through.Lts-seek as seek-lts
 use Rattle.schedule_search.proofs.+seek_through.Lts-through as through-lts
 
-pub +seek-through-spec : {M : Type 1} → statement M
-+seek-through-spec =
+pub +seek_through_spec : {M : Type 1} → statement M
++seek_through_spec =
     close μ_seek μ_through
     (λ n. seek-lts.spec (seek_callees n) (seek_at n) seek.Post Inv_loop μ_loop
     (λ _ _. tt)
@@ -34,12 +34,12 @@ pub +seek-through-spec : {M : Type 1} → statement M
     (by-seek.less n)
     (by-seek.again n)
     (λ _ _. tt)
-    (λ c. c.before.before.loop.invariant.1)
-    (λ c. c.before.before.loop.invariant.2)
-    (λ c. c.before.before.loop.invariant.3)
-    (λ c. c.before.before.loop.invariant.4)
-    (λ c. c.before.before.loop.invariant.5)
-    (λ c. c.before.before.loop.invariant.6)
+    (λ c. c.before.before.loop-t.invariant.1)
+    (λ c. c.before.before.loop-t.invariant.2)
+    (λ c. c.before.before.loop-t.invariant.3)
+    (λ c. c.before.before.loop-t.invariant.4)
+    (λ c. c.before.before.loop-t.invariant.5)
+    (λ c. c.before.before.loop-t.invariant.6)
     (by-seek.over n))
     (λ n. through-lts.spec (through_callees n) (through-at n) through.Post
     (by-through.choose_requires n)

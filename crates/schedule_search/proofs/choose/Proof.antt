@@ -2,7 +2,7 @@
 use mathlib.Core.{Path.{◌≡◌, refl, sym, ap, ◌∙◌}, Bool.{Bool, true, false, ◌&&◌, ◌||◌, not, cond}, List.List}
 use Prim.Native.Nat.{ℕ, ◌-◌}
 use lib.{Dec.{eqb, ltb}, ListN.get_or}
-use borrow.Author.{Needs.needs, Tests.{eq-eqb, ne_eqb, lt-ltb, le-ltb}}
+use borrow.Author.{Rules.rules, Tests.{eq-eqb, ne_eqb, lt-ltb, le-ltb}}
 use Rattle.model.specs.{declared.Call.Call, Tables.{Tables, unused}}
 use Rattle.layout.specs.Rows.{records_of}
 use Rattle.schedule_model.specs.Search.{bound, least}
@@ -23,60 +23,60 @@ told q pair ws len left free t idle b too_soon same c r whose i₁ i₂ i₃ i�
 binds : (len left : ℕ) (free b : Bool) → free ≡ false → ltb (48 - left) len ≡ b → bound len left free ≡ b
 binds len left free b e h = ap (λ (x : Bool). not x && ltb (48 - left) len) e ∙ h
 
-returns : tie.Need-returns
+returns : tie.Need-returns-then-r-eq0
 returns c q =
     let call = c.before.before in
     let a = call.before.before.before.args in
-    told q a.pair.now a.given.now a.len a.left a.free a.t true _ _ _ 0 _ call.call_at.ensures (eq-eqb _ _ c.if1.true) refl refl
+    told q a.pair.now a.given.now a.len a.left a.free a.t true _ _ _ 0 _ call.call_at-r.ensures (eq-eqb _ _ c.if-r-eq0.true) refl refl
     refl refl
 
-returns-2 : tie.Need-returns-2
+returns-2 : tie.Need-returns-then-free
 returns-2 c q =
     let busy = c.before in
     let call = busy.before.before in
     let a = call.before.before.before.args in
-    told q a.pair.now a.given.now a.len a.left a.free a.t false false _ _ 2 _ call.call_at.ensures (ne_eqb _ _ busy.if1.false)
-    (ap (λ (x : Bool). not x && ltb (48 - a.left) a.len) c.if2.true) refl refl refl
+    told q a.pair.now a.given.now a.len a.left a.free a.t false false _ _ 2 _ call.call_at-r.ensures (ne_eqb _ _ busy.if-r-eq0.false)
+    (ap (λ (x : Bool). not x && ltb (48 - a.left) a.len) c.if-free.true) refl refl refl
 
-returns-3 : tie.Need-returns-3
+returns-3 : tie.Need-returns-then-len-left
 returns-3 c q =
     let after = c.before in
     let busy = after.before in
     let call = busy.before.before in
     let a = call.before.before.before.args in
-    told q a.pair.now a.given.now a.len a.left a.free a.t false false _ _ 2 _ call.call_at.ensures (ne_eqb _ _ busy.if1.false)
-    (binds a.len a.left a.free false after.if2.false (le-ltb _ _ c.if3.true)) refl refl refl
+    told q a.pair.now a.given.now a.len a.left a.free a.t false false _ _ 2 _ call.call_at-r.ensures (ne_eqb _ _ busy.if-r-eq0.false)
+    (binds a.len a.left a.free false after.if-free.false (le-ltb _ _ c.if-len-left.true)) refl refl refl
 
 -- The list binds, and names a task.
-module _ (read : tie.After-word_at) (q : Tables) where
-  abbrev busy : tie.Else1
+module _ (read : tie.After-word_at-least) (q : Tables) where
+  abbrev busy : tie.Else-r-eq0
   busy = read.before.before.before
 
-  abbrev call : tie.After-call_at
+  abbrev call : tie.After-call_at-r
   call = busy.before.before
 
   abbrev a : tie.Start
   a = call.before.before.before
 
-  by_list : (too_soon same : Bool) (c : ℕ) → ltb a.args.t read.word_at.result ≡ too_soon → eqb a.args.t read.word_at.result ≡ same
+  by_list : (too_soon same : Bool) (c : ℕ) → ltb a.args.t read.word_at-least.result ≡ too_soon → eqb a.args.t read.word_at-least.result ≡ same
       → c ≡ cond too_soon 0 (cond (not same) 2 1)
       → (let s = a.args in
       c ≡ choice s.given.now s.len s.left s.free (record { tables = q; records = records_of s.pair.now }) s.t)
   by_list too_soon same c e₁ e₂ e =
       let s = a.args in
-      let next = sym read.word_at.ensures in
-      told q s.pair.now s.given.now s.len s.left s.free s.t false true too_soon same c _ call.call_at.ensures
-      (ne_eqb _ _ busy.if1.left) (binds s.len s.left s.free true read.before.before.if2.left (lt-ltb _ _ read.before.if3.left))
+      let next = sym read.word_at-least.ensures in
+      told q s.pair.now s.given.now s.len s.left s.free s.t false true too_soon same c _ call.call_at-r.ensures
+      (ne_eqb _ _ busy.if-r-eq0.false) (binds s.len s.left s.free true read.before.before.if-free.false (lt-ltb _ _ read.before.if-len-left.false))
       (ap (λ (x : ℕ). ltb s.t x) next ∙ e₁) (ap (λ (x : ℕ). eqb s.t x) next ∙ e₂) e
 
-returns-4 : tie.Need-returns-4
-returns-4 c q = by_list c.before q true _ 0 (lt-ltb _ _ c.if4.true) refl refl
+returns-4 : tie.Need-returns-then-t-least
+returns-4 c q = by_list c.before q true _ 0 (lt-ltb _ _ c.if-t-least.true) refl refl
 
-returns-5 : tie.Need-returns-5
-returns-5 c q = by_list c.before.before q false true 1 (le-ltb _ _ c.before.if4.false) (eq-eqb _ _ c.if5.true) refl
+returns-5 : tie.Need-returns-then-t-least-2
+returns-5 c q = by_list c.before.before q false true 1 (le-ltb _ _ c.before.if-t-least.false) (eq-eqb _ _ c.if-t-least-2.true) refl
 
-returns-6 : tie.Need-returns-6
-returns-6 c q = by_list c.before.before q false false 2 (le-ltb _ _ c.before.if4.false) (ne_eqb _ _ c.if5.false) refl
+returns-6 : tie.Need-returns-else-t-least-2
+returns-6 c q = by_list c.before.before q false false 2 (le-ltb _ _ c.before.if-t-least.false) (ne_eqb _ _ c.if-t-least-2.false) refl
 
 pub choose_spec : {M : Type 1} → statement M
 choose_spec =
@@ -85,9 +85,9 @@ choose_spec =
     (λ _ _. tt)
     returns
     returns-2
-    (λ c. search needs)
+    (λ c. search rules)
     returns-3
-    (λ c. search needs)
+    (λ c. search rules)
     (λ _ _. tt)
     returns-4
     returns-5

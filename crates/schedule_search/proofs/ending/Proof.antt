@@ -21,35 +21,35 @@ module _ (q : Tables) (pair : List (List ℕ)) where
       let both : both_answered Q ≡ x = (λ i. not (not (eqb (sym ea i).place 0) || not (eqb (sym eb i).place 0))) ∙ hx in
       he ∙ sym (ap (λ (z : Bool). ends_here z (both_answered Q) left) hs ∙ ap (λ (z : Bool). ends_here false z left) both)
 
-returns : tie.Need-returns
-returns c q = let a = c.before.args in sym (ap (λ (z : Bool). ends_here z (both_answered (Q q a.pair.now)) a.left) c.if1.true)
+returns : tie.Need-returns-then-stopped
+returns c q = let a = c.before.args in sym (ap (λ (z : Bool). ends_here z (both_answered (Q q a.pair.now)) a.left) c.if-stopped.true)
 
-returns-2 : tie.Need-returns-2
+returns-2 : tie.Need-returns-then-not-a-b
 returns-2 c q =
     let second = c.before.before.before in
     let first = second.before.before in
     let go = first.before.before in
     let a = go.before.args in
-    made q a.pair.now a.stopped true a.left answered_both _ _ go.if1.false first.call_at.ensures second.call_at2.ensures
-    c.if2.true refl
+    made q a.pair.now a.stopped true a.left answered_both _ _ go.if-stopped.false first.call_at-a.ensures second.call_at-b.ensures
+    c.if-not-a-b.true-raw refl
 
-returns-3 : tie.Need-returns-3
+returns-3 : tie.Need-returns-then-left-eq0
 returns-3 c q =
     let second = c.before.before.before.before in
     let first = second.before.before in
     let go = first.before.before in
     let a = go.before.args in
-    made q a.pair.now a.stopped false a.left was_cut _ _ go.if1.false first.call_at.ensures second.call_at2.ensures
-    c.before.if2.false (rw (eq-eqb _ 0 c.if3.true) refl)
+    made q a.pair.now a.stopped false a.left was_cut _ _ go.if-stopped.false first.call_at-a.ensures second.call_at-b.ensures
+    c.before.if-not-a-b.false-raw (rw (eq-eqb _ 0 c.if-left-eq0.true) refl)
 
-returns-4 : tie.Need-returns-4
+returns-4 : tie.Need-returns-else-left-eq0
 returns-4 c q =
     let second = c.before.before.before.before in
     let first = second.before.before in
     let go = first.before.before in
     let a = go.before.args in
-    made q a.pair.now a.stopped false a.left goes_on _ _ go.if1.false first.call_at.ensures second.call_at2.ensures
-    c.before.if2.false (rw (ne_eqb _ 0 c.if3.false) refl)
+    made q a.pair.now a.stopped false a.left goes_on _ _ go.if-stopped.false first.call_at-a.ensures second.call_at-b.ensures
+    c.before.if-not-a-b.false-raw (rw (ne_eqb _ 0 c.if-left-eq0.false) refl)
 
 pub ending_spec : {M : Type 1} → statement M
 ending_spec = tie.close (tie.spec returns (λ _ _. tt) (λ _ _. tt) returns-2 returns-3 returns-4)

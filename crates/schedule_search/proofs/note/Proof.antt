@@ -4,11 +4,11 @@ use borrow.Author.Rules.{rules}
 use Rattle.schedule_search.proofs.note.Statement.{statement}
 use Rattle.schedule_search.proofs.note.Tie as tie
 
-returns : tie.Need-returns
-returns c = let p = c.before.before in rw p.before.before.if1.true p.put_word.ensures
+returns : tie.Need-returns-then-f
+returns c = let p = c.before.before in rw p.before.before.if-f.true p.put_word.ensures
 
-returns-2 : tie.Need-returns-2
-returns-2 c = rw c.if1.false refl
+returns-2 : tie.Need-returns-else-f
+returns-2 c = rw c.if-f.false refl
 
 pub note_spec : {M : Type 1} → statement M
 note_spec = tie.close (tie.spec (λ _ _. tt) (λ c. search rules) returns returns-2)

@@ -9,7 +9,7 @@ returns : tie.Need-returns
 returns c =
     let called = c.before in
     let a = called.before.before.args in
-    c.record_refusal.ensures ∙ ap (record_refusal (eqb a.pooled 1) a.slots) called.call_of.ensures
+    c.record_refusal.ensures ∙ ap (record_refusal (eqb a.pooled 1) a.slots) called.call_of-r.ensures
 
 pub refusal_spec : {M : Type 1} → statement M
 refusal_spec = tie.close (tie.spec (λ c κs. search rules) (λ c κs. search rules) returns)

@@ -5,12 +5,12 @@ use borrow.Author.Rules.{rules}
 use Rattle.capi.proofs.openings.zc_open.Tie as tie
 
 -- The opening by value, and the words that it was given.
-module _ (made : tie.After-open_tables) where
-  abbrev told : tie.After-control_of
-  told = let lent = made.before.before.before in lent.before.before.before
+module _ (made : tie.After-open_tables-m) where
+  abbrev told : tie.After-control_of-c
+  told = made.before.before.before.before.before.before
 
   abbrev a : tie.Start
-  a = let lists = told.before.before.before in lists.before.before.before
+  a = told.before.before.before.before.before.before
 
 returns : tie.Need-returns
 returns c next =
@@ -20,8 +20,8 @@ returns c next =
     let made = lent.before.before.before in
     let s = (a made).args in
     opened s.control.now s.records.now s.lefts.now s.rights.now s.labels.now s.marks.now next false _ _ _ _ _ _ _ _ _ next _ _ _ _
-    (told made).control_of.ensures refl (any_next _ _ _ _ _ _ next _ _ _ _ made.open_tables.ensures) put.control_row.ensures
-    c.before.before.clear.ensures.0 c.before.before.clear.ensures.1 c.Opening_code.ensures
+    (told made).control_of-c.ensures refl (any_next _ _ _ _ _ _ next _ _ _ _ made.open_tables-m.ensures) put.control_row-after.ensures
+    c.before.before.clear.ensures.0 c.before.before.clear.ensures.1 c.opening_code.ensures
 
 pub zc_open_spec : {M : Type 1} → statement M
 zc_open_spec =

@@ -66,12 +66,12 @@ through_callees n = (
   note-reads.Learnt,
 )
 
-abbrev pub Inv_loop : seek-lts.invariant-loop
+abbrev pub Inv_loop : seek-lts.invariant-loop-t
 Inv_loop stopped control₀ pair₀ left free len given₀ lefts₀ rights₀ labels₀ marks₀ next₀ e t₀ control pair given lefts rights labels marks next t =
     let q = queue_in control₀ pair₀ lefts₀ rights₀ labels₀ marks₀ next₀ in
     Turn given₀ given len free q (queue_in control pair lefts rights labels marks next) left t (under stopped free (seeking given₀ len left free q))
     × (length given ≡ length given₀) × (length lefts ≡ length lefts₀) × (length rights ≡ length rights₀)
     × (length labels ≡ length labels₀) × (length marks ≡ length marks₀) × (length next ≡ length next₀)
 
-abbrev pub μ_loop : seek-lts.decreases-loop
+abbrev pub μ_loop : seek-lts.decreases-loop-t
 μ_loop stopped control₀ pair₀ left free len given₀ lefts₀ rights₀ labels₀ marks₀ next₀ e t₀ control pair given lefts rights labels marks next t = 2 - t

@@ -12,8 +12,8 @@ use Rattle.schedule_search.proofs.seek.Reads as seek
 use Rattle.schedule_search.proofs.+seek_through.Lts-seek as lts
 
 module _ (n : ℕ) where
-  abbrev begun : lts.After-ending (seek_callees n) (seek_at n) seek.Post Inv_loop μ_loop → lts.Start (seek_callees n) (seek_at n) seek.Post Inv_loop μ_loop
-  begun c = let lent = c.before.before.before.before in lent.before.before.before.before
+  abbrev begun : lts.After-ending-e (seek_callees n) (seek_at n) seek.Post Inv_loop μ_loop → lts.Start (seek_callees n) (seek_at n) seek.Post Inv_loop μ_loop
+  begun c = c.before.before.before.before.before.before.before
 
   abbrev tables : lts.Start (seek_callees n) (seek_at n) seek.Post Inv_loop μ_loop → Tables
   tables c =
@@ -25,19 +25,19 @@ module _ (n : ℕ) where
       let a = c.args in
       queue_in a.control.now a.pair.now a.lefts.now a.rights.now a.labels.now a.marks.now a.next.now
 
-  pub ends : lts.Need-returns (seek_callees n) (seek_at n) seek.Post Inv_loop μ_loop
+  pub ends : lts.Need-returns-then-e-ne3 (seek_callees n) (seek_at n) seek.Post Inv_loop μ_loop
   ends c =
       let told = c.before.before in
       let start = begun told in
       let a = start.args in
-      ends-here _ a.len a.free (whole start) _ a.stopped a.left _ (told.ending.ensures (tables start)) c.before.if1.true
+      ends-here _ a.len a.free (whole start) _ a.stopped a.left _ (told.ending-e.ensures (tables start)) c.before.if-e-ne3.true
       c.ended.ensures
 
-  goes : (c : lts.Else1 (seek_callees n) (seek_at n) seek.Post Inv_loop μ_loop)
+  goes : (c : lts.Else-e-ne3 (seek_callees n) (seek_at n) seek.Post Inv_loop μ_loop)
       → (let start = begun c.before in Goes start.args.stopped (both_answered (whole start)) start.args.left)
-  goes c = goes_on_lem _ _ _ _ (c.before.ending.ensures (tables (begun c.before))) c.if1.false
+  goes c = goes_on_lem _ _ _ _ (c.before.ending-e.ensures (tables (begun c.before))) c.if-e-ne3.false
 
-  pub holds : lts.Need-loop-init (seek_callees n) (seek_at n) seek.Post Inv_loop μ_loop
+  pub holds : lts.Need-loop-t-init (seek_callees n) (seek_at n) seek.Post Inv_loop μ_loop
   holds c =
       let start = begun c.before in
       let a = start.args in (
@@ -55,82 +55,78 @@ module _ (n : ℕ) where
         refl,
       )
 
-  pub through_requires : lts.Need-through-requires (seek_callees n) (seek_at n) seek.Post Inv_loop μ_loop
+  pub through_requires : lts.Need-through-f-requires (seek_callees n) (seek_at n) seek.Post Inv_loop μ_loop
   through_requires c κs =
       let lent = c.before.before.before.before in
       let turn = lent.before.before.before.before in
       let on = turn.before.before in
-      let pre = (begun on.before).pre in
+      let pre = (begun on.before).requires in
       let some = (goes on).some in (
         omega (arith, pre.0, some),
-        (turn.loop-test.true, (some, pre.1)),
+        (turn.loop-t-test.true, (some, pre.1)),
       )
 
   -- The turn of a task, from where its answer is looked at.
-  module _ (told : lts.After-slice-known12 (seek_callees n) (seek_at n) seek.Post Inv_loop μ_loop) where
-    abbrev did : lts.After-through (seek_callees n) (seek_at n) seek.Post Inv_loop μ_loop
+  module _ (told : lts.After-slice_known-in-loop-t-6-1 (seek_callees n) (seek_at n) seek.Post Inv_loop μ_loop) where
+    abbrev did : lts.After-through-f (seek_callees n) (seek_at n) seek.Post Inv_loop μ_loop
     did =
         let marks = told.before.before.before.before in
         let rights = marks.before.before.before.before in
         rights.before.before.before.before
 
-    abbrev turn : lts.In-loop (seek_callees n) (seek_at n) seek.Post Inv_loop μ_loop
-    turn =
-        let lent = did.before.before.before.before in
-        let first = lent.before.before.before.before in
-        first.before
+    abbrev turn : lts.In-loop-t (seek_callees n) (seek_at n) seek.Post Inv_loop μ_loop
+    turn = did.before.before.before.before.before.before.before.before.before
 
-  pub found : lts.Need-returns-2 (seek_callees n) (seek_at n) seek.Post Inv_loop μ_loop
+  pub found : lts.Need-returns-then-f (seek_callees n) (seek_at n) seek.Post Inv_loop μ_loop
   found c =
       let told = c.before in
       let at = turn told in
       let a = (begun at.before.before.before).args in
-      turn_found _ a.len a.free _ a.left _ _ _ _ at.before.loop.inv.0 _ _ _ at.loop-test.taken (did told).through.ensures
-      c.if2.true
+      turn_found _ a.len a.free _ a.left _ _ _ _ at.before.loop-t.invariant.0 _ _ _ at.loop-t-test.true (did told).through-f.ensures
+      c.if-f.true
 
-  pub same-given : lts.Need-same-length (seek_callees n) (seek_at n) seek.Post Inv_loop μ_loop
-  same-given c = (did c.before).through.kept.1.1.1.1.1.1.0 ∙ (turn c.before).before.loop.inv.1
+  pub same-given : lts.Need-shape_of-given-then-f (seek_callees n) (seek_at n) seek.Post Inv_loop μ_loop
+  same-given c = (did c.before).through-f.auto.given ∙ (turn c.before).before.loop-t.invariant.1
 
-  pub same-lefts : lts.Need-same-length-2 (seek_callees n) (seek_at n) seek.Post Inv_loop μ_loop
-  same-lefts c = (did c.before).through.kept.1.1.1.1.1.1.1.0 ∙ (turn c.before).before.loop.inv.2
+  pub same-lefts : lts.Need-shape_of-lefts-then-f (seek_callees n) (seek_at n) seek.Post Inv_loop μ_loop
+  same-lefts c = (did c.before).through-f.auto.lefts ∙ (turn c.before).before.loop-t.invariant.2
 
-  pub same-rights : lts.Need-same-length-3 (seek_callees n) (seek_at n) seek.Post Inv_loop μ_loop
-  same-rights c = (did c.before).through.kept.1.1.1.1.1.1.1.1.0 ∙ (turn c.before).before.loop.inv.3
+  pub same-rights : lts.Need-shape_of-rights-then-f (seek_callees n) (seek_at n) seek.Post Inv_loop μ_loop
+  same-rights c = (did c.before).through-f.auto.rights ∙ (turn c.before).before.loop-t.invariant.3
 
-  pub same-labels : lts.Need-same-length-4 (seek_callees n) (seek_at n) seek.Post Inv_loop μ_loop
-  same-labels c = (did c.before).through.kept.1.1.1.1.1.1.1.1.1.0 ∙ (turn c.before).before.loop.inv.4
+  pub same-labels : lts.Need-shape_of-labels-then-f (seek_callees n) (seek_at n) seek.Post Inv_loop μ_loop
+  same-labels c = (did c.before).through-f.auto.labels ∙ (turn c.before).before.loop-t.invariant.4
 
-  pub same-marks : lts.Need-same-length-5 (seek_callees n) (seek_at n) seek.Post Inv_loop μ_loop
-  same-marks c = (did c.before).through.kept.1.1.1.1.1.1.1.1.1.1.0 ∙ (turn c.before).before.loop.inv.5
+  pub same-marks : lts.Need-shape_of-marks-then-f (seek_callees n) (seek_at n) seek.Post Inv_loop μ_loop
+  same-marks c = (did c.before).through-f.auto.marks ∙ (turn c.before).before.loop-t.invariant.5
 
-  pub same_next : lts.Need-same-length-6 (seek_callees n) (seek_at n) seek.Post Inv_loop μ_loop
-  same_next c = (did c.before).through.kept.1.1.1.1.1.1.1.1.1.1.1.0 ∙ (turn c.before).before.loop.inv.6
+  pub same_next : lts.Need-shape_of-next-then-f (seek_callees n) (seek_at n) seek.Post Inv_loop μ_loop
+  same_next c = (did c.before).through-f.auto.next ∙ (turn c.before).before.loop-t.invariant.6
 
-  pub one_more : lts.Need-overflow-add-t (seek_callees n) (seek_at n) seek.Post Inv_loop μ_loop
-  one_more c = let less = (turn c.before).loop-test.taken in search rules
+  pub one_more : lts.Need-overflow_add-t (seek_callees n) (seek_at n) seek.Post Inv_loop μ_loop
+  one_more c = let less = (turn c.before).loop-t-test.true in search rules
 
-  pub less : lts.Need-loop-smaller (seek_callees n) (seek_at n) seek.Post Inv_loop μ_loop
-  less c = let low = (turn c.before).loop-test.taken in omega arith
+  pub less : lts.Need-loop-t-smaller (seek_callees n) (seek_at n) seek.Post Inv_loop μ_loop
+  less c = let low = (turn c.before).loop-t-test.true in omega arith
 
-  pub again : lts.Need-loop-preserved (seek_callees n) (seek_at n) seek.Post Inv_loop μ_loop
+  pub again : lts.Need-loop-t-preserved (seek_callees n) (seek_at n) seek.Post Inv_loop μ_loop
   again c =
       let told = c.before in
       let at = turn told in
-      let inv = at.before.loop.inv in
-      let through = (did told).through in
-      let lists = through.kept.1.1.1.1.1.1 in
+      let inv = at.before.loop-t.invariant in
+      let through = (did told).through-f in
       let a = (begun at.before.before.before).args in (
-        turn_on _ a.len a.free _ a.left _ _ _ _ inv.0 _ _ _ at.loop-test.taken through.ensures c.if2.false,
-        lists.0 ∙ inv.1,
-        lists.1.0 ∙ inv.2,
-        lists.1.1.0 ∙ inv.3,
-        lists.1.1.1.0 ∙ inv.4,
-        lists.1.1.1.1.0 ∙ inv.5,
-        lists.1.1.1.1.1.0 ∙ inv.6,
+        turn_on _ a.len a.free _ a.left _ _ _ _ inv.0 _ _ _ at.loop-t-test.true through.ensures c.if-f.false,
+        through.auto.given ∙ inv.1,
+        through.auto.lefts ∙ inv.2,
+        through.auto.rights ∙ inv.3,
+        through.auto.labels ∙ inv.4,
+        through.auto.marks ∙ inv.5,
+        through.auto.next ∙ inv.6,
       )
 
-  pub over : lts.Need-returns-3 (seek_callees n) (seek_at n) seek.Post Inv_loop μ_loop
+  pub over : lts.Need-returns (seek_callees n) (seek_at n) seek.Post Inv_loop μ_loop
   over c =
       let out = c.before in
       let a = (begun out.before.before.before).args in
-      turns-over _ a.len a.free _ a.left _ _ _ _ out.before.loop.invariant.0 _ out.loop-test.false c.none.ensures
+      turns-over _ a.len a.free _ a.left _ _ _ _ out.before.loop-t.invariant.0 _ out.loop-t-test.false c.none.ensures

@@ -16,17 +16,17 @@ returns c =
     let a = lent.before.before.before.args in
     (λ i.
     record {
-      anchor = (control.control_of.ensures i).anchor;
-      head = (control.control_of.ensures i).head;
-      slot = slot.row_of.result;
-      left = two.before.word_at.ensures i;
-      right = two.word_at2.ensures i;
-      label = c.before.before.label_at.ensures i;
-      mark = c.before.word_at3.ensures i;
-      next = c.word_at4.ensures i;
+      anchor = (control.control_of-c.ensures i).anchor;
+      head = (control.control_of-c.ensures i).head;
+      slot = slot.row_of-slot.result;
+      left = two.before.word_at-left.ensures i;
+      right = two.word_at-right.ensures i;
+      label = c.before.before.label_at-label.ensures i;
+      mark = c.before.word_at-mark.ensures i;
+      next = c.word_at-next.ensures i;
     })
     ∙ ap (λ (x : ℕ). saved x (tables_of (control_of a.control.now) a.lefts.now a.rights.now a.labels.now a.marks.now a.next.now))
-    slot.row_of.ensures
+    slot.row_of-slot.ensures
 
 pub keep_spec : {M : Type 1} → statement M
 keep_spec = tie.close (tie.spec (λ _ _. tt) (λ _ _. tt) (λ _ _. tt) (λ _ _. tt) (λ _ _. tt) (λ _ _. tt) (λ _ _. tt) returns)

@@ -16,10 +16,10 @@ returns c =
     let control = row.before in
     let lent = control.before.before.before.before in
     let s = lent.before.before.before.args.s in
-    let words = row.control_row.ensures ∙ ap (λ (k : Control). with_words k s.anchor s.head) control.control_of.ensures in
+    let words = row.control_row-before.ensures ∙ ap (λ (k : Control). with_words k s.anchor s.head) control.control_of-c.ensures in
     λ i.
-    tables_of (words i) (lefts.put_word.ensures i) (rights.put_word2.ensures i) (labels.put_label.ensures i) (marks.put_word3.ensures i)
-    (next.put_word4.ensures i)
+    tables_of (words i) (lefts.put_word.ensures i) (rights.put_word-2.ensures i) (labels.put_label.ensures i) (marks.put_word-3.ensures i)
+    (next.put_word-4.ensures i)
 
 pub put_back_spec : {M : Type 1} → statement M
 put_back_spec =

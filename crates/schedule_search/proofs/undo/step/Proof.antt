@@ -4,19 +4,15 @@ use Rattle.schedule_search.proofs.{Stepping.steps, undo.step.Statement.statement
 use Rattle.schedule_search.proofs.undo.step.Tie as tie
 
 -- The row is there.
-module _ (kept : tie.After-keep) where
+module _ (kept : tie.After-keep-saved) where
   abbrev start : tie.Start
-  start =
-      let words = kept.before.before.before.before in
-      let read = words.before.before.before.before in
-      let rows = read.before.before.before.before in
-      rows.before.before
+  start = kept.before.before.before.before.before.before.before.before
 
-lent_row : tie.Need-overflow-mul-move-row
-lent_row c = let there = (start c.before).pre in search rules
+lent_row : tie.Need-offset_bounds-pair-t-2
+lent_row c = let there = (start c.before).requires in search rules
 
-index_row : tie.Need-bounds-1-move-row
-index_row c = let there = (start c.before).pre in search rules
+index_row : tie.Need-bounds-pair-t-2
+index_row c = let there = (start c.before).requires in search rules
 
 returns : tie.Need-returns
 returns c =
@@ -25,9 +21,9 @@ returns c =
     let moved = rights.before.before.before in
     let lent = moved.before.before.before.before in
     let kept = lent.before.before.before.before in
-    let words = kept.before.before.before.before in
-    let read = words.before.before.before in
-    steps _ _ _ _ _ _ _ _ _ _ _ _ _ _ _ _ _ _ _ read.call_of.ensures kept.keep.ensures moved.Move_row.ensures c.moves.ensures
+    let words = kept.before in
+    let read = words in
+    steps _ _ _ _ _ _ _ _ _ _ _ _ _ _ _ _ _ _ _ read.call_of-r.ensures kept.keep-saved.ensures moved.move_row-o.ensures c.moves-stopped.ensures
 
 pub step_spec : {M : Type 1} → statement M
 step_spec =

@@ -1,7 +1,7 @@
 use mathlib.Core.{Path.{◌≡◌, refl, sym, ap, ◌∙◌}, Bool.false}
 use Prim.Native.Nat.{ℕ}
 use lib.Dec.{eqb, leb}
-use borrow.Author.{Tests.{eq-eqb, ne_eqb, le-leb, lt-leb}, Needs.needs}
+use borrow.Author.{Tests.{eq-eqb, ne_eqb, le-leb, lt-leb}, Rules.rules}
 use Rattle.model.{specs.{declared.Call.Call, Tables.{started, asking}}, proofs.Tests.Truth.either}
 use Rattle.threads_model.specs.{declared.Start.Start, Split.{refuses, plan}, Starts.first_call}
 use Rattle.touch.proofs.Starting as by
@@ -26,54 +26,54 @@ bad pooled slots s a =
     (either P (eqb s.operation 1) (by.bad_side pooled slots (started 1 s.side 0 0) refl a)
     (by.bad_side pooled slots (asking s.side s.label) refl a))
 
-returns : tie.Need-returns
-returns c = let a = c.before.before.before.args in c.refuses.ensures ∙ bad a.pooled a.slots a.s (lt-leb _ _ c.before.if1.true)
+returns : tie.Need-returns-then-s-gt1
+returns c = let a = c.before.before.before.args in c.refuses.ensures ∙ bad a.pooled a.slots a.s (lt-leb _ _ c.before.if-s-gt1.true)
 
-returns-2 : tie.Need-returns-2
+returns-2 : tie.Need-returns-then-from1
 returns-2 c =
     let a = c.before.before.before.before.before.before.args in
-    by.push_plan a.pooled a.slots a.s.side a.s.slot a.s.label (le-leb _ _ c.before.before.before.before.if1.false)
-    (sym c.before.from1.ensures ∙ c.if3.true)
-    ∙ ap (plan a.pooled a.slots) (sym (push a.s c.before.before.if2.true))
+    by.push_plan a.pooled a.slots a.s.side a.s.slot a.s.label (le-leb _ _ c.before.before.before.before.if-s-gt1.false)
+    (sym c.before.from1.ensures ∙ c.if-from1.true)
+    ∙ ap (plan a.pooled a.slots) (sym (push a.s c.before.before.if-s-eq0.true))
 
-returns-3 : tie.Need-returns-3
+returns-3 : tie.Need-returns-then-s-eq0
 returns-3 c =
     let a = c.before.before.before.before.before.before.before.args in
-    c.refuses2.ensures
-    ∙ by.bad_slot a.pooled a.slots a.s.side a.s.slot a.s.label (sym c.before.before.from1.ensures ∙ c.before.if3.false)
-    ∙ ap (plan a.pooled a.slots) (sym (push a.s c.before.before.before.if2.true))
+    c.refuses-then-s-eq0.ensures
+    ∙ by.bad_slot a.pooled a.slots a.s.side a.s.slot a.s.label (sym c.before.before.from1.ensures ∙ c.before.if-from1.false)
+    ∙ ap (plan a.pooled a.slots) (sym (push a.s c.before.before.before.if-s-eq0.true))
 
-returns-4 : tie.Need-returns-4
+returns-4 : tie.Need-returns-then-s-eq1
 returns-4 c =
     let a = c.before.before.before.before.before.before.args in
-    by.pop_plan a.pooled a.slots a.s.side (le-leb _ _ c.before.before.before.before.if1.false)
-    ∙ ap (plan a.pooled a.slots) (sym (pop a.s c.before.before.if2.false c.if4.true))
+    by.pop_plan a.pooled a.slots a.s.side (le-leb _ _ c.before.before.before.before.if-s-gt1.false)
+    ∙ ap (plan a.pooled a.slots) (sym (pop a.s c.before.before.if-s-eq0.false c.if-s-eq1.true))
 
-returns-5 : tie.Need-returns-5
+returns-5 : tie.Need-returns-then-pooled-eq1
 returns-5 c =
     let a = c.before.before.before.before.before.before.before.args in
-    by.push_pooled_plan a.pooled a.slots a.s.side a.s.label (le-leb _ _ c.before.before.before.before.before.if1.false) (eq-eqb _ _
-    c.if5.true)
-    ∙ ap (plan a.pooled a.slots) (sym (draw a.s c.before.before.before.if2.false c.before.if4.false))
+    by.push_pooled_plan a.pooled a.slots a.s.side a.s.label (le-leb _ _ c.before.before.before.before.before.if-s-gt1.false) (eq-eqb _ _
+    c.if-pooled-eq1.true)
+    ∙ ap (plan a.pooled a.slots) (sym (draw a.s c.before.before.before.if-s-eq0.false c.before.if-s-eq1.false))
 
-returns-6 : tie.Need-returns-6
+returns-6 : tie.Need-returns
 returns-6 c =
     let a = c.before.before.before.before.before.before.before.before.args in
-    c.refuses3.ensures
-    ∙ by.not_pooled a.pooled a.slots a.s.side a.s.label (ne_eqb _ _ c.before.if5.false)
-    ∙ ap (plan a.pooled a.slots) (sym (draw a.s c.before.before.before.before.if2.false c.before.before.if4.false))
+    c.refuses-2.ensures
+    ∙ by.not_pooled a.pooled a.slots a.s.side a.s.label (ne_eqb _ _ c.before.if-pooled-eq1.false)
+    ∙ ap (plan a.pooled a.slots) (sym (draw a.s c.before.before.before.before.if-s-eq0.false c.before.before.if-s-eq1.false))
 
 pub first_plan_spec : {M : Type 1} → statement M
 first_plan_spec =
     tie.close
     (tie.spec
-    (λ c κs. search needs)
+    (λ c κs. search rules)
     returns
-    (λ c κs. search needs)
+    (λ c κs. search rules)
     returns-2
-    (λ c κs. search needs)
+    (λ c κs. search rules)
     returns-3
     returns-4
     returns-5
-    (λ c κs. search needs)
+    (λ c κs. search rules)
     returns-6)

@@ -9,7 +9,7 @@ returns : tie.Need-returns
 returns c =
     let st = c.before in
     let a = c.before.before.before.args in
-    c.plan_start.ensures ∙ ap (λ (s : Start). plan_start a.pooled a.slots (call_of a.task.now) s) st.start_of_lem.ensures
+    c.plan_start.ensures ∙ ap (λ (s : Start). plan_start a.pooled a.slots (call_of a.task.now) s) st.start_of.ensures
 
 pub zc_plan_start_spec : {M : Type 1} → statement M
 zc_plan_start_spec = tie.close (tie.spec (λ c κs. search rules) (λ c κs. search rules) returns)

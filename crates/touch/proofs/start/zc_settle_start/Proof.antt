@@ -13,7 +13,7 @@ returns c =
     let was = a.task.now in
     c.settle_start.ensures
     ∙ ap (λ (s : Start). started_by a.pooled a.slots (upper_of was) (record_of was) (settle_start (record_of was) s a.act a.found))
-    st.start_of_lem.ensures
+    st.start_of-s.ensures
 
 pub zc_settle_start_spec : {M : Type 1} → statement M
 zc_settle_start_spec = tie.close (tie.spec (λ c κs. search rules) (λ c κs. search rules) returns)
