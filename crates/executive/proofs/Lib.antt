@@ -1,3 +1,1 @@
-pub mod Loan
 pub mod Pair
-pub mod Records
