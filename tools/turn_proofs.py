@@ -83,6 +83,7 @@ def conv(crate,top='.'):
                     x=m.group(1)
                     if any(m.string[:m.start()].endswith('.'+nf) for nf in nfs): return m.group(0)
                     if re.search(r"\.(args|new|initial|fn|ensures|requires|ranges|result|now|loop[\w-]*)$",m.string[:m.start()]) or re.search(r"(?<![\w.'-])("+"|".join(map(re.escape,argvars or {"no var"}))+r")$",m.string[:m.start()]): return m.group(0)
+                    if m.string[:m.start()].endswith(('tie','lts')): return m.group(0)
                     if norm(x) not in fields and x[:1].isupper() and norm(x[0].lower()+x[1:]) in fields: return '.'+fields[norm(x[0].lower()+x[1:])]
                     if norm(x) in fields and fields[norm(x)]!=x: return '.'+fields[norm(x)]
                     return m.group(0)

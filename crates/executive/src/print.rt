@@ -2,26 +2,33 @@
 ghost use Rattle.std.specs.Prelude.{◌≤◌, length};
 
 use lines::Line;
+use std::io::Write;
 
 // Writes out a line, or tells that it cannot.
-fn flush(out: &[u8], to: usize) -> bool
+fn flush<W: Write, E: Write>(writer: &mut W, errors: &mut E, out: &[u8], to: usize) -> bool
     requires { to ≤ length out.now }
 {
-    if io::write_all(1, &out[..to]) {
+    if writer.write_all(&out[..to]).is_ok() {
         return true;
     }
-    io::write_all(2, b"executive: cannot write\n");
+    let _ = errors.write_all(b"executive: cannot write\n");
     false
 }
 
-pub fn header() {
+pub fn header<W: Write, E: Write>(writer: &mut W, errors: &mut E) {
     let mut out = [0u8; lines::ROOM];
     let to = lines::write_header(&mut out, 0);
-    flush(&out, to);
+    flush(writer, errors, &out, to);
 }
 
-pub fn line(event: u64, line: Line, anchor: u64) {
+pub fn line<W: Write, E: Write>(
+    writer: &mut W,
+    errors: &mut E,
+    event: u64,
+    line: Line,
+    anchor: u64,
+) {
     let mut out = [0u8; lines::ROOM];
     let to = lines::write_line(&mut out, 0, event, line, anchor);
-    flush(&out, to);
+    flush(writer, errors, &out, to);
 }

@@ -50,7 +50,7 @@ overwritten f g n k l h s = ext_get_or 0 (filled f n (filled g k l)) (filled f n
 -- The last one's Right was 0 before.
 pub linked : (n : ℕ) (l : List ℕ) → suc n < length l → get_or l (suc n) 0 ≡ 0 → filled (right_to (suc n)) (suc n) l ≡ filled right_of n l
 linked n l s z =
-    ext_get_or 0 (filled (right_to (suc n)) (suc n) l) (filled right_of n l) (filled_length _ (suc n) l ∙ sym (filled_length right_of n l))
+    ext_get_or 0 (filled (right_to (suc n)) (suc n) l) (filled right_of n l) (filled_length (right_to (suc n)) (suc n) l ∙ sym (filled_length right_of n l))
     (λ i _. go i (row n i))
   where
     last : (i : ℕ) → n < i → Row (suc n) i → get_or (filled (right_to (suc n)) (suc n) l) i 0 ≡ get_or l i 0

@@ -161,12 +161,12 @@ module _ (a b q : Queue) where
       lane1 : rows_down (label_via a.tables.labels scratch1) n ≡ waiting_labels a.tables
       lane1 =
           lane_rows a (accepted a b q e).0.first n in_first scratch1
-          (λ i l h. filled_at _ n q.tables.lefts i l h (omega (arith, room, (long q.tables.control.slots refl).0)))
+          (λ i l h. filled_at (walked_to a.tables.lefts (anchor_in a).right) n q.tables.lefts i l h (omega (arith, room, (long q.tables.control.slots refl).0)))
 
       lane2 : rows_down (label_via b.tables.labels scratch2) m ≡ waiting_labels b.tables
       lane2 =
           lane_rows b (accepted a b q e).0.second m in_second scratch2
-          (λ i l h. filled_at _ m q.tables.rights i l h (omega (arith, room, (long q.tables.control.slots refl).1)))
+          (λ i l h. filled_at (walked_to b.tables.lefts (anchor_in b).right) m q.tables.rights i l h (omega (arith, room, (long q.tables.control.slots refl).1)))
 
       -- Laid.
       module _ (some : 1 ≤ n + m) (lefts rights labels marks : List ℕ) (c : Control)
@@ -187,10 +187,10 @@ module _ (a b q : Queue) where
             let same = long q.tables.control.slots refl in
             let zero-last : get_or q.tables.rights (suc k) 0 ≡ 0 = (accepted a b q e).0.third.zeros.rights (suc k) (omega (arith, room, count)) in
             let left_rows =
-            left ∙ overwritten left_of _ (n + m) n q.tables.lefts (omega arith) (omega (arith, room, same.0)) ∙ ap
+            left ∙ overwritten left_of (walked_to a.tables.lefts (anchor_in a).right) (n + m) n q.tables.lefts (omega arith) (omega (arith, room, same.0)) ∙ ap
             (λ (j : ℕ). filled left_of j q.tables.lefts) count in
             let right_rows =
-            right ∙ overwritten (right_to (n + m)) _ (n + m) m q.tables.rights (omega arith) (omega (arith, room, same.1))
+            right ∙ overwritten (right_to (n + m)) (walked_to b.tables.lefts (anchor_in b).right) (n + m) m q.tables.rights (omega arith) (omega (arith, room, same.1))
             ∙ ap (λ (j : ℕ). filled (right_to j) j q.tables.rights) count ∙ linked k q.tables.rights (omega (arith, room, same.1, count)) zero-last in
             let label_rows =
             label ∙ (λ i. filled (label_of (merge (lane1 i) (lane2 i))) (count i) q.tables.labels) ∙ ap

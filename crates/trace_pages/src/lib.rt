@@ -1,6 +1,6 @@
-//! What `replay` makes of a file, written to standard output: each page once, from the front of the buffer.
+//! What `replay` makes of a file, written out: each page once, from the front of the buffer.
 //!
-//! No contract says that the system writes what it is lent.
+//! No contract says that the system writes what it is lent. Why it cannot be written is told to another writer.
 #![tactic(auto)]
 
 ghost use Rattle.std.specs.Prelude.{ℕ, ◌≤◌, length};
@@ -9,16 +9,17 @@ ghost use Rattle.trace_field.specs.Page.{page_of};
 ghost use Rattle.trace_replay.specs.{Feed.Begins, Pieces.{from_start, next_page, pages_of, last_page}};
 ghost use Rattle.trace_pages.specs.Some.{Some};
 
+use std::io::Write;
 use trace_field::RunState;
 
 // Writes out the lines, or tells that it cannot.
-fn flush(out: &[u8], to: usize) -> bool
+fn flush<W: Write, E: Write>(writer: &mut W, errors: &mut E, out: &[u8], to: usize) -> bool
     requires { to ≤ length out.now }
 {
-    if io::write_all(1, &out[..to]) {
+    if writer.write_all(&out[..to]).is_ok() {
         return true;
     }
-    io::write_all(2, b"trace: cannot write\n");
+    let _ = errors.write_all(b"trace: cannot write\n");
     false
 }
 
@@ -30,17 +31,19 @@ pub struct AfterPages {
 }
 
 /// The trace's first line.
-pub fn begin(out: &mut [u8]) -> AfterPages
+pub fn begin<W: Write, E: Write>(writer: &mut W, errors: &mut E, out: &mut [u8]) -> AfterPages
     ensures { Begins out.old out.new result.state }
 {
     let state = trace_replay::begin(out);
     let to = state.to;
-    let written = flush(out, to);
+    let written = flush(writer, errors, out, to);
     AfterPages { state, written }
 }
 
 // One call of `feed`, and what its page holds written out.
-fn take_page(
+fn take_page<W: Write, E: Write>(
+    writer: &mut W,
+    errors: &mut E,
     s: RunState,
     bytes: &[u8],
     out: &mut [u8],
@@ -61,13 +64,15 @@ fn take_page(
     p.to = 0;
     let q = trace_replay::feed(p, bytes, out, rows, lefts, rights, labels, marks, next);
     let to = q.to;
-    let written = flush(out, to);
+    let written = flush(writer, errors, out, to);
     AfterPages { state: q, written }
 }
 
 /// Every whole field of the bytes, or those of the first pages, up to one that cannot be written: a page takes none only
 /// where none is left.
-pub fn take_piece(
+pub fn take_piece<W: Write, E: Write>(
+    writer: &mut W,
+    errors: &mut E,
     s: RunState,
     bytes: &[u8],
     out: &mut [u8],
@@ -93,7 +98,9 @@ pub fn take_piece(
     q.at = 0;
     while !q.over {
         let at = q.at;
-        let t = take_page(q, bytes, out, rows, lefts, rights, labels, marks, next);
+        let t = take_page(
+            writer, errors, q, bytes, out, rows, lefts, rights, labels, marks, next,
+        );
         let written = t.written;
         q = t.state;
         if !written | (q.at == at) {
@@ -105,7 +112,13 @@ pub fn take_piece(
 }
 
 /// The end of the input, where so many bytes are left: the rest of the trace.
-pub fn end(s: RunState, left: usize, out: &mut [u8]) -> AfterPages
+pub fn end<W: Write, E: Write>(
+    writer: &mut W,
+    errors: &mut E,
+    s: RunState,
+    left: usize,
+    out: &mut [u8],
+) -> AfterPages
     ensures { (ws : List (List ℕ)) (ls rs bs ms ns : List ℕ)
         → page_of result.state out.new ws ls rs bs ms ns ≡ last_page left (page_of s out.old ws ls rs bs ms ns) }
 {
@@ -113,6 +126,6 @@ pub fn end(s: RunState, left: usize, out: &mut [u8]) -> AfterPages
     p.to = 0;
     let q = trace_replay::finish(p, left, out);
     let to = q.to;
-    let written = flush(out, to);
+    let written = flush(writer, errors, out, to);
     AfterPages { state: q, written }
 }

@@ -1,4 +1,4 @@
-//! The trace of the run file on standard input, written to standard output as the file comes.
+//! The trace of a run file from a reader, written out as the file comes.
 //!
 //! What the system reads (`refill`) and writes (`pages`) is in no contract; what is between is proved.
 #![tactic(auto)]
@@ -12,6 +12,7 @@ ghost use Rattle.runfile.specs.Field.{longest_field};
 ghost use Rattle.trace_field.specs.Page.{page_of, field_room};
 ghost use Rattle.trace_replay.specs.{Feed.Zeros, Pieces.{round_page, Gone}};
 
+use std::io::{Read, Write};
 use trace_field::RunState;
 use trace_pages::AfterPages;
 
@@ -26,7 +27,10 @@ struct Round {
 
 // Reads behind the bytes that are left, and takes them all, or the end of the input. The buffer has room, so a zero-byte read means end of
 // input.
-fn take_round(
+fn take_round<R: Read, W: Write, E: Write>(
+    reader: &mut R,
+    writer: &mut W,
+    errors: &mut E,
     s: RunState,
     input: &mut [u8],
     have: usize,
@@ -48,11 +52,11 @@ fn take_round(
         lefts.old rights.old labels.old marks.old next.old) }
     ensures going_value { result.failed ≡ false → result.going ≡ (ltb (have - s.at) result.have && not result.state.over) }
 {
-    let more = refill::refill(input, s.at, have);
+    let more = refill::refill(reader, input, s.at, have);
     let left = more.left;
     let full = more.have;
     if more.failed {
-        io::write_all(2, b"trace: cannot read\n");
+        let _ = errors.write_all(b"trace: cannot read\n");
         return Round {
             state: s,
             have: full,
@@ -61,7 +65,7 @@ fn take_round(
         };
     }
     if full == left {
-        let t = trace_pages::end(s, full, out);
+        let t = trace_pages::end(writer, errors, s, full, out);
         let q = t.state;
         return Round {
             state: q,
@@ -71,6 +75,8 @@ fn take_round(
         };
     }
     let t = trace_pages::take_piece(
+        writer,
+        errors,
         s,
         &input[..full],
         out,
@@ -92,7 +98,10 @@ fn take_round(
 
 // Reads and writes until the file ends, or the run, and tells whether all of the trace was written. The input is so long that a read
 // always has room behind what is left.
-fn rounds(
+fn rounds<R: Read, W: Write, E: Write>(
+    reader: &mut R,
+    writer: &mut W,
+    errors: &mut E,
     input: &mut [u8],
     out: &mut [u8],
     rows: &mut [[u64; layout::RECORD_WORDS]],
@@ -108,7 +117,7 @@ fn rounds(
     ensures { result.written ≡ true → Gone out.old (page_of result.state out.new rows.new
         lefts.new rights.new labels.new marks.new next.new) }
 {
-    let first = trace_pages::begin(out);
+    let first = trace_pages::begin(writer, errors, out);
     let mut s = first.state;
     if !first.written {
         return AfterPages {
@@ -122,7 +131,7 @@ fn rounds(
     while turns > 0 {
         turns -= 1;
         let r = take_round(
-            s, input, have, out, rows, lefts, rights, labels, marks, next,
+            reader, writer, errors, s, input, have, out, rows, lefts, rights, labels, marks, next,
         );
         s = r.state;
         if r.failed | !r.going {
@@ -139,8 +148,9 @@ fn rounds(
     }
 }
 
-/// The whole of the file on standard input, over buffers and tables of its own.
-pub fn trace() {
+/// The whole of the file that the reader gives, over buffers and tables of its own. Where it cannot be read, or its trace not written,
+/// that is told to `errors`.
+pub fn trace<R: Read, W: Write, E: Write>(reader: &mut R, writer: &mut W, errors: &mut E) {
     let mut input = [0u8; 65536];
     let mut output = [0u8; 589824];
     let mut rows = [[0u64; layout::RECORD_WORDS]; 16];
@@ -150,6 +160,9 @@ pub fn trace() {
     let mut marks = [0u64; 16];
     let mut next = [0u64; 1024];
     rounds(
+        reader,
+        writer,
+        errors,
         &mut input,
         &mut output,
         &mut rows,

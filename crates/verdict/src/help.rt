@@ -1,7 +1,9 @@
 //! What `--help` says.
-pub fn help() -> bool {
-    io::write_all(
-        1,
+use std::io::Write;
+
+/// Whether all of it was written.
+pub fn help<W: Write>(to: &mut W) -> bool {
+    to.write_all(
         b"usage: verdict < HISTORY
 
 Tells on one line whether a history of finished calls can be true:
@@ -26,4 +28,5 @@ A run of trace as a history:
   tools/runfile RUN.txt | trace | tools/history RUN.txt | verdict
 ",
     )
+    .is_ok()
 }

@@ -6,35 +6,38 @@ mod help;
 ghost use Rattle.std.specs.Prelude.{◌≤◌, length};
 
 use judge::say;
+use std::env::{Env, FillError};
+use std::io::{Read, Write};
 
 /// What was read: how many bytes there are.
-#[derive(Clone, Copy)]
+#[derive(Drop)]
 pub struct Input {
     pub have: usize,
     pub failed: bool,
 }
 
 // Reads once behind the first `have` bytes; as many as before at the end of the input.
-fn read_more(input: &mut [u8], have: usize) -> Input
+fn read_more<R: Read>(from: &mut R, input: &mut [u8], have: usize) -> Input
     requires { have ≤ length input.old }
     ensures { result.have ≤ length input.old }
 {
-    let got = libc::read(0, &mut input[have..]);
-    let n = have + io::count(got, &input[have..]);
-    Input {
-        have: n,
-        failed: got < 0,
+    match from.read(&mut input[have..]) {
+        Ok(n) => Input {
+            have: have + n,
+            failed: false,
+        },
+        Err(_) => Input { have, failed: true },
     }
 }
 
 // Reads to the end of the input, or as much as there is room for.
-fn read_all(input: &mut [u8]) -> Input
+fn read_all<R: Read>(from: &mut R, input: &mut [u8]) -> Input
     ensures { result.have ≤ length input.old }
 {
     let mut have = 0;
     // Each turn leaves less room, or is the last.
     while have < input.len() {
-        let more = read_more(input, have);
+        let more = read_more(from, input, have);
         let n = more.have;
         if more.failed | (n <= have) {
             return more;
@@ -48,31 +51,50 @@ fn read_all(input: &mut [u8]) -> Input
 }
 
 // A buffer that is full may not hold all of the input.
-fn judge_input(input: &mut [u8], out: &mut [u8]) -> bool {
-    let all = read_all(input);
+fn judge_input<R: Read, W: Write, E: Write>(
+    from: &mut R,
+    to: &mut W,
+    errors: &mut E,
+    input: &mut [u8],
+    out: &mut [u8],
+) -> bool {
+    let all = read_all(from, input);
     if all.failed {
-        return io::write_all(2, b"verdict: cannot read\n");
+        return errors.write_all(b"verdict: cannot read\n").is_ok();
     }
     let n = all.have;
     if n == input.len() {
-        return io::write_all(2, b"verdict: longer than 65535 bytes\n");
+        return errors
+            .write_all(b"verdict: longer than 65535 bytes\n")
+            .is_ok();
     }
     let said = say::say(&input[..n], out);
     let length = said.length;
     if said.told {
-        return io::write_all(1, &out[..length]);
+        return to.write_all(&out[..length]).is_ok();
     }
-    io::write_all(2, &out[..length])
+    errors.write_all(&out[..length]).is_ok()
 }
 
-fn main() {
-    if os::arg_count() > 1 {
-        help::help();
+// Whether the program was started with an argument.
+fn has_arguments(rt: &impl Env) -> bool {
+    match rt.arg(1, &mut []) {
+        Err(FillError::NotPresent) => false,
+        _ => true,
+    }
+}
+
+fn main(rt: HostRuntime) {
+    let mut to = rt.stdout();
+    if has_arguments(&rt) {
+        help::help(&mut to);
         return;
     }
-    let mut input = io::large_buffer();
+    let mut from = rt.stdin();
+    let mut errors = rt.stderr();
+    let mut input = [0u8; 65536];
     let mut out = [0u8; lines::ROOM];
-    if !judge_input(&mut input, &mut out) {
-        io::write_all(2, b"verdict: cannot write\n");
+    if !judge_input(&mut from, &mut to, &mut errors, &mut input, &mut out) {
+        let _ = errors.write_all(b"verdict: cannot write\n");
     }
 }

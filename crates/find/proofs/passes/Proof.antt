@@ -6,14 +6,14 @@ use Rattle.model.specs.Tables.{marked}
 use Rattle.find.proofs.passes.Statement.{statement}
 use Rattle.find.proofs.passes.Tie as tie
 
-returns : tie.Need-returns
-returns c = rw (le-leb _ _ c.if1.true)
+returns : tie.Need-returns-then-k-le-FEW
+returns c = rw (le-leb _ _ c.if-k-le-FEW.true)
 
-returns-2 : tie.Need-returns-2
+returns-2 : tie.Need-returns
 returns-2 c =
     let e = c.before.before in
     let a = e.before.before.args in
-    rw (lt-leb _ _ e.if1.false) (c.marked.ensures ∙ ap (λ (v : ℕ). marked a.sieve.now (v % 1024)) c.before.wide.ensures)
+    rw (lt-leb _ _ e.if-k-le-FEW.false) (c.marked.ensures ∙ ap (λ (v : ℕ). marked a.sieve.now (v % 1024)) c.before.wide.ensures)
 
 pub passes_spec : {M : Type 1} → statement M
 passes_spec = tie.close (tie.spec returns (λ _ _. tt) (λ _ _. tt) returns-2)

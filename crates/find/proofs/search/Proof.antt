@@ -3,7 +3,7 @@ use mathlib.Core.{Path.{◌≡◌, refl, sym, ap, ◌∙◌}, List.List}
 use Prim.Native.Nat.{ℕ}
 use native.Mathlib.Omega.{arith}
 use lib.ListN.{length, length-replicate}
-use borrow.Author.{Needs.needs, Tests.{not-true, not-false}}
+use borrow.Author.{Rules.rules, Tests.{not-true, not-false}}
 use Rattle.model.specs.Walk.{Walk}
 use Rattle.walk.specs.{declared.Tally.{Tally, TheVariants.Labels}, Ways.ahead, Over.over}
 use Rattle.find.specs.Looked.{note_on, noted}
@@ -12,7 +12,7 @@ use Rattle.find.proofs.search.Statement.{statement}
 use Rattle.find.proofs.search.Tie as tie
 
 -- The walk that was made, and what came of it.
-module _ (k : tie.After-look) where
+module _ (k : tie.After-look-walked) where
   abbrev start : tie.Start
   start = let s = k.before.before.before.before in s.before.before.before.before
 
@@ -20,51 +20,51 @@ module _ (k : tie.After-look) where
   walk = let a = start.args in ahead a.w a.lefts.now a.rights.now a.labels.now
 
   abbrev after : List ℕ
-  after = k.look.last.1.1.1.1.1.1.0
+  after = k.look-walked.new.positions
 
-  came : (t : Tally) → k.look.result ≡ t
+  came : (t : Tally) → k.look-walked.result ≡ t
       → noted t after ≡ over (note_on start.args.w.rightward start.args.wanted.now) (record { count = 0; positions = blank }) walk
   came t e =
       let a = start.args in
-      ap (λ (r : Tally). noted r after) (sym e) ∙ k.look.ensures
-      ∙ ap (λ (ps : List ℕ). over (note_on a.w.rightward a.wanted.now) (record { count = 0; positions = ps }) walk) start.pre.1.0
+      ap (λ (r : Tally). noted r after) (sym e) ∙ k.look-walked.ensures
+      ∙ ap (λ (ps : List ℕ). over (note_on a.w.rightward a.wanted.now) (record { count = 0; positions = ps }) walk) start.requires.1.0
 
   size : length start.args.positions.now ≡ 32
-  size = ap length start.pre.1.0 ∙ length-replicate {A = ℕ} 32 0
+  size = ap length start.requires.1.0 ∙ length-replicate {A = ℕ} 32 0
 
-returns : tie.Need-returns
+returns : tie.Need-returns-in_default
 returns c =
     let z = c.before.before in
     let t = z.before.before in
     let s = t.before.before in
-    let k = s.before.before.before in
+    let k = s.before.before in
     let a = (start k).args in
     let long : length (after k) ≡ 32 = omega (arith, size k) in
     let lost = nothing-found (note_on a.w.rightward a.wanted.now) (record { count = 0; positions = blank }) a.w (walk k) a.wanted.now
-    (came k _ t.enum_told.given.1) in
+    (came k _ t.in_default.is) in
     ap (λ (ps : List ℕ). record { code = 34; rows = 0; positions = ps }) (z.zero_words.ensures ∙ blanked (after k) long) ∙ lost
 
 -- All of the walk went into it.
-module _ (t : tie.After-known-told) where
-  abbrev looked : tie.After-look
-  looked = let s = t.before.before.before in s.before.before.before
+module _ (t : tie.In-Labels) where
+  abbrev looked : tie.After-look-walked
+  looked = let s = t.before.before.before in s.before
 
   abbrev rows : ℕ
-  rows = t.before.walked.given.0.0
+  rows = t.in-Labels.rows
 
   all_noted : noted (Labels rows) (after looked)
       ≡ over (note_on (start looked).args.w.rightward (start looked).args.wanted.now) (record { count = 0; positions = blank }) (walk looked)
-  all_noted = came looked _ t.before.walked.given.1
+  all_noted = came looked _ t.in-Labels.is
 
 turn_requires : tie.Need-turn-requires
 turn_requires c κs =
     let t = c.before.before.before in
     let k = looked t in
     let a = (start k).args in
-    let few = (start k).pre.0 in
+    let few = (start k).requires.0 in
     (omega (arith, size k), within a.w.rightward a.wanted.now (rows t) (after k) (walk k) (all_noted t))
 
-returns-2 : tie.Need-returns-2
+returns-2 : tie.Need-returns-then-not-w
 returns-2 c =
     let v = c.before.before in
     let n = v.before.before in
@@ -72,16 +72,16 @@ returns-2 c =
     let k = looked t in
     let a = (start k).args in
     ap (λ (ps : List ℕ). record { code = 0; rows = rows t; positions = ps }) v.turn.ensures
-    ∙ right-found a.w a.wanted.now (start k).pre.0 (rows t) (after k) (walk k) (not-true _ n.if1.true) (all_noted t)
+    ∙ right-found a.w a.wanted.now (start k).requires.0 (rows t) (after k) (walk k) (not-true _ n.if-not-w.true) (all_noted t)
 
-returns-3 : tie.Need-returns-3
+returns-3 : tie.Need-returns-else-not-w
 returns-3 c =
     let t = c.before.before in
     let k = looked t in
     let a = (start k).args in
-    left-found a.w a.wanted.now (start k).pre.0 (rows t) (after k) (walk k) (not-false _ c.if1.false) (all_noted t)
+    left-found a.w a.wanted.now (start k).requires.0 (rows t) (after k) (walk k) (not-false _ c.if-not-w.false) (all_noted t)
 
-look_requires : tie.Need-look-requires
+look_requires : tie.Need-look-walked-requires
 look_requires c κs =
     let s = c.before.before.before in
     let start = s.before.before.before.before in
@@ -95,15 +95,15 @@ pub search_spec : {M : Type 1} → statement M
 search_spec =
     tie.close
     (tie.spec
-    (λ c. search needs)
+    (λ c. search rules)
     look_requires
-    (λ c. search needs)
-    (λ c. search needs)
+    (λ c. search rules)
+    (λ c. search rules)
     (λ _ _. tt)
-    (λ c. search needs)
+    (λ c. search rules)
     returns
     turn_requires
-    (λ c. search needs)
+    (λ c. search rules)
     returns-2
-    (λ c. search needs)
+    (λ c. search rules)
     returns-3)

@@ -9,17 +9,17 @@ use Rattle.join.specs.Anchored.{anchored}
 use Rattle.join.proofs.anchored.Statement.{statement}
 use Rattle.join.proofs.anchored.Tie as tie
 
-add_t7 : tie.Need-overflow-add-t7
+add_t7 : tie.Need-overflow_add-b
 add_t7 c =
     let s = c.before.before in
-    omega (arith, ap (λ (a : Anchor). a.tag) c.before.unpack.ensures, s.requires.1.0, s.requires.1.1)
+    omega (arith, ap (λ (a : Anchor). a.tag) c.before.unpack-a.ensures, s.requires.1.0, s.requires.1.1)
 
 returns : tie.Need-returns
 unfolding anchored
 returns c =
     let u = c.before.before in
     let a = u.before.args in
-    let tag = ap (λ (r : Anchor). r.tag + 2 * a.n - 1) u.unpack.ensures in
+    let tag = ap (λ (r : Anchor). r.tag + 2 * a.n - 1) u.unpack-a.ensures in
     let word = c.pack.ensures ∙ (λ i. pack_anchor (record { tag = tag i; status = 0; left = 1; right = a.n })) in
     ap (λ (w : ℕ). with_words a.c w a.c.head) word
 

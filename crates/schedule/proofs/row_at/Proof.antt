@@ -7,14 +7,14 @@ use borrow.Author.Rules.{rules}
 use Rattle.schedule.proofs.row_at.Statement.{statement}
 use Rattle.schedule.proofs.row_at.Tie as tie
 
-returns : tie.Need-returns
+returns : tie.Need-returns-then-task-records
 returns c = record_read _ _
 
-returns-2 : tie.Need-returns-2
+returns-2 : tie.Need-returns-else-task-records
 unfolding record_of call_of
 returns-2 c =
     let rows = c.before.args.records.now in
-    let past = c.if1.false in
+    let past = c.if-task-records.false in
     sym (get_or-eq_default (records_of rows) _ (omega (arith, length_records rows)))
 
 pub row_at_spec : {M : Type 1} → statement M

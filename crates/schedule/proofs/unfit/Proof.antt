@@ -5,17 +5,17 @@ use Rattle.schedule.specs.Answered.{refusal_after}
 use Rattle.schedule.proofs.unfit.Statement.{statement}
 use Rattle.schedule.proofs.unfit.Tie as tie
 
-returns : tie.Need-returns
+returns : tie.Need-returns-in-Broken
 unfolding refusal_after
-returns c = rw c.enum_told.given.1 refl
+returns c = rw c.in-Broken.is refl
 
-returns-2 : tie.Need-returns-2
+returns-2 : tie.Need-returns-then-two-n
 unfolding refusal_after
-returns-2 c = let w = c.before.before in rw (w.walked.given.1, c.if1.true) refl
+returns-2 c = let w = c.before in rw (w.in-Labels.is, c.if-two-n.true) refl
 
-returns-3 : tie.Need-returns-3
+returns-3 : tie.Need-returns-else-two-n
 unfolding refusal_after
-returns-3 c = let w = c.before.before in rw (w.walked.given.1, c.if1.false) refl
+returns-3 c = let w = c.before in rw (w.in-Labels.is, c.if-two-n.false) refl
 
 pub unfit_spec : {M : Type 1} → statement M
 unfit_spec = tie.close (tie.spec (λ c. search rules) (λ c. search rules) returns returns-2 returns-3)

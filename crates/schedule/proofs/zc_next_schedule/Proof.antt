@@ -7,18 +7,15 @@ use Rattle.schedule_model.specs.Next.{schedule_refusal}
 use Rattle.schedule.proofs.{Handing.{turned_away, accepted}, zc_next_schedule.Statement.statement}
 use Rattle.schedule.proofs.zc_next_schedule.Tie as tie
 
-module _ (told : tie.After-refusal) where
-  abbrev second : tie.After-call_at2
-  second = let lent = told.before.before.before.before in lent.before.before.before
+module _ (told : tie.After-refusal-why) where
+  abbrev second : tie.After-call_at-y
+  second = told.before
 
-  abbrev control : tie.After-control_of
+  abbrev control : tie.After-control_of-c
   control = second.before.before
 
   abbrev a : tie.Start
-  a =
-      let words = control.before in
-      let lent = words.before.before.before.before in
-      lent.before.before.before
+  a = control.before.before.before.before.before.before.before.before
 
   abbrev rs : List Record
   rs = records_of a.args.records.now
@@ -30,23 +27,23 @@ module _ (told : tie.After-refusal) where
   all k = record { tables = q k; records = rs }
 
   -- The answer of `refusal`, in the rows' terms.
-  why : told.refusal.result ≡ schedule_refusal (all (control_of a.args.control.now)) a.args.schedule.now
+  why : told.refusal-why.result ≡ schedule_refusal (all (control_of a.args.control.now)) a.args.schedule.now
   why =
-      told.refusal.ensures rs
+      told.refusal-why.ensures rs
       (record {
         count = length_records a.args.records.now;
-        first = sym second.before.call_at.ensures;
-        second = sym second.call_at2.ensures;
+        first = sym second.before.call_at-x.ensures;
+        second = sym second.call_at-y.ensures;
       })
-      ∙ ap (λ (k : Control). schedule_refusal (all k) a.args.schedule.now) control.control_of.ensures
+      ∙ ap (λ (k : Control). schedule_refusal (all k) a.args.schedule.now) control.control_of-c.ensures
 
-returns : tie.Need-returns
+returns : tie.Need-returns-then-why-ne0
 returns c =
     let told = c.before.before in
-    turned_away (q told (control_of (a told).args.control.now)) (rs told) (a told).args.schedule.now _ _ (why told) c.before.if1.true
+    turned_away (q told (control_of (a told).args.control.now)) (rs told) (a told).args.schedule.now _ _ (why told) c.before.if-why-ne0.true
     c.refused.ensures
 
-returns-2 : tie.Need-returns-2
+returns-2 : tie.Need-returns
 unfolding records_of
 returns-2 c =
     let labels = c.before.before.before.before in
@@ -57,8 +54,8 @@ returns-2 c =
     let left = row.before.before in
     let told = left.before in
     handed.hand_out.ensures
-    ∙ accepted (q told (control_of (a told).args.control.now)) (rs told) (a told).args.schedule.now (record_of row.before.row_at.result)
-    (record_of row.row_at2.result) (sym (why told) ∙ left.if1.false) row.before.row_at.ensures row.row_at2.ensures
+    ∙ accepted (q told (control_of (a told).args.control.now)) (rs told) (a told).args.schedule.now (record_of row.before.row_at-a.result)
+    (record_of row.row_at-b.result) (sym (why told) ∙ left.if-why-ne0.false) row.before.row_at-a.ensures row.row_at-b.ensures
 
 pub zc_next_schedule_spec : {M : Type 1} → statement M
 zc_next_schedule_spec =

@@ -8,7 +8,7 @@ use Rattle.serve.specs.{Requests.requests_from, Serving.{state_in, served}}
 use Rattle.serve.proofs.{Served.{request_in, served-all, served-none, served-next}, carry_out.Statement.statement}
 use Rattle.serve.proofs.carry_out.Tie as tie
 
-abbrev invariant-loop : tie.invariant-loop
+abbrev invariant-loop : tie.invariant-loop-i
 invariant-loop co₀ rs₀ count requests replies₀ lefts₀ rights₀ labels₀ marks₀ next₀ i₀ co rs replies lefts rights labels marks next i =
     (i ≤ count) × (count < 9223372036854775808) × (5 * count ≤ length requests) × (3 * count ≤ length replies₀)
     × (served (3 * i) (state_in co rs replies lefts rights labels marks next) (requests_from i (count - i) requests)
@@ -16,52 +16,46 @@ invariant-loop co₀ rs₀ count requests replies₀ lefts₀ rights₀ labels�
     × (length rs ≡ length rs₀) × (length replies ≡ length replies₀) × (length lefts ≡ length lefts₀)
     × (length rights ≡ length rights₀) × (length labels ≡ length labels₀) × (length marks ≡ length marks₀) × (length next ≡ length next₀)
 
-abbrev decreases-loop : tie.decreases-loop
+abbrev decreases-loop : tie.decreases-loop-i
 decreases-loop co₀ rs₀ count requests replies₀ lefts₀ rights₀ labels₀ marks₀ next₀ i₀ co rs replies lefts rights labels marks next i = count - i
 
-loop-holds : tie.Need-loop-init invariant-loop decreases-loop
+loop-holds : tie.Need-loop-i-init invariant-loop decreases-loop
 loop-holds c = (search rules, search rules, search rules, search rules, served-all _ _ _, refl, refl, refl, refl, refl, refl, refl)
 
 -- Back to the operation, past what it leaves of each table; and to the request.
-abbrev turn : tie.After-write_reply invariant-loop decreases-loop → tie.After-take_turn invariant-loop decreases-loop
-turn c =
-    let marks = c.before.before.before.before in
-    let rights = marks.before.before.before.before in
-    let records = rights.before.before.before.before in
-    records.before
+abbrev turn : tie.After-write_reply invariant-loop decreases-loop → tie.After-take_turn-r invariant-loop decreases-loop
+turn c = c.before.before.before.before.before.before.before.before.before.before.before.before.before
 
-abbrev read : tie.After-take_turn invariant-loop decreases-loop → tie.After-request_at invariant-loop decreases-loop
-read c =
-    let args = c.before.before.before.before in
-    args.before.before.before.before
+abbrev read : tie.After-take_turn-r invariant-loop decreases-loop → tie.After-request_at-request invariant-loop decreases-loop
+read c = c.before.before.before.before.before.before.before.before
 
-add_i : tie.Need-overflow-add-i invariant-loop decreases-loop
+add_i : tie.Need-overflow_step-i invariant-loop decreases-loop
 add_i c =
     let test = (read (turn c.before.before)).before in
-    let less = test.loop-test.taken in
-    let small = test.before.loop.inv.1 in
+    let less = test.loop-i-test.true in
+    let small = test.before.loop-i.invariant.1 in
     omega arith
 
-loop-again : tie.Need-loop-preserved invariant-loop decreases-loop
+loop-again : tie.Need-loop-i-preserved invariant-loop decreases-loop
 loop-again c =
     let wrote = c.before.before in
     let done = turn wrote in
     let request = read done in
-    let less = request.before.loop-test.taken in
-    let inv = request.before.before.loop.inv in
-    let kept = done.take_turn.kept.1.1.1 in (
+    let less = request.before.loop-i-test.true in
+    let inv = request.before.before.loop-i.invariant in
+    let took = done.take_turn-r.auto in (
       omega arith,
       inv.1,
       inv.2,
       inv.3,
-      served-next _ _ _ _ _ _ _ less (ap request_in request.request_at.ensures) done.take_turn.ensures wrote.write_reply.ensures ∙ inv.4,
-      done.take_turn.kept.1.0 ∙ inv.5,
-      wrote.write_reply.auto.0 ∙ inv.6,
-      kept.0 ∙ inv.7,
-      kept.1.0 ∙ inv.8,
-      kept.1.1.0 ∙ inv.9,
-      kept.1.1.1.0 ∙ inv.10,
-      kept.1.1.1.1.0 ∙ inv.11,
+      served-next _ _ _ _ _ _ _ less (ap request_in request.request_at-request.ensures) done.take_turn-r.ensures wrote.write_reply.ensures ∙ inv.4,
+      took.records ∙ inv.5,
+      wrote.write_reply.auto.words ∙ inv.6,
+      took.lefts ∙ inv.7,
+      took.rights ∙ inv.8,
+      took.labels ∙ inv.9,
+      took.marks ∙ inv.10,
+      took.next ∙ inv.11,
     )
 
 returns : tie.Need-returns invariant-loop decreases-loop
@@ -69,8 +63,8 @@ returns c =
     let lists = c.before.before.before.before in
     let replies = lists.before.before.before in
     let first = replies.before.before in
-    let e : c.before.loop.i ≡ first.args.count = omega arith in
-    sym (served-none _ _ _ _ e) ∙ c.before.loop.invariant.4
+    let e : c.before.loop-i.i ≡ first.args.count = omega arith in
+    sym (served-none _ _ _ _ e) ∙ c.before.loop-i.invariant.4
 
 pub carry_out_spec : {M : Type 1} → statement M
 carry_out_spec =
@@ -85,11 +79,11 @@ carry_out_spec =
     add_i
     (λ c. search rules)
     loop-again
-    (λ c. c.before.loop.invariant.5)
-    (λ c. c.before.loop.invariant.6)
-    (λ c. c.before.loop.invariant.7)
-    (λ c. c.before.loop.invariant.8)
-    (λ c. c.before.loop.invariant.9)
-    (λ c. c.before.loop.invariant.10)
-    (λ c. c.before.loop.invariant.11)
+    (λ c. c.before.loop-i.invariant.5)
+    (λ c. c.before.loop-i.invariant.6)
+    (λ c. c.before.loop-i.invariant.7)
+    (λ c. c.before.loop-i.invariant.8)
+    (λ c. c.before.loop-i.invariant.9)
+    (λ c. c.before.loop-i.invariant.10)
+    (λ c. c.before.loop-i.invariant.11)
     returns)

@@ -1,7 +1,7 @@
 use mathlib.Core.{Bool.{Bool, true, false, ◌&&◌}, List.{List, []}, Path.{◌≡◌, refl, sym, ap, ◌∙◌}}
 use Prim.Native.Nat.{ℕ}
 use lib.ListN.{length}
-use borrow.Author.{Tests.{not-true, not-false}, Needs.needs}
+use borrow.Author.{Rules.rules}
 use Rattle.model.specs.{Tables.{Tables, tables_of}, Sound.{control_sound, rows_fit}}
 use Rattle.sound.specs.Lengths.{lengths_fit}
 use Rattle.sheet.specs.{Refusals.unfit, Squares.{byte_row, crossed}, Search.in_rows}
@@ -15,7 +15,7 @@ with_true true = refl
 with_true false = refl
 
 -- The sheet, the queue whatever its next rows, and the beginning.
-module _ (why : tie.After-unfit) where
+module _ (why : tie.After-unfit-why) where
   abbrev start : tie.Start
   start = let lists = why.before.before.before.before in lists.before.before.before.before
 
@@ -27,39 +27,39 @@ module _ (why : tie.After-unfit) where
 
   -- What was tried before the walk, in the model's terms.
   tried : (next : List ℕ)
-      → (let c = start.args.c in why.unfit.result ≡ unfit (control_sound c) (malformed given_sheet) (rows_fit false c.slots (queue next) && true))
+      → (let c = start.args.c in why.unfit-why.result ≡ unfit (control_sound c) (malformed given_sheet) (rows_fit false c.slots (queue next) && true))
   unfolding lengths_fit rows_fit
-  tried next = why.unfit.ensures
-      ∙ ap (unfit (control_sound start.args.c) (malformed given_sheet)) (why.before.rows_fit.ensures ∙ sym (with_true _))
+  tried next = why.unfit-why.ensures
+      ∙ ap (unfit (control_sound start.args.c) (malformed given_sheet)) (why.before.rows_fit-fits.ensures ∙ sym (with_true _))
 
-fine : (go : tie.Else1) (next : List ℕ) → Accepted (queue go.before next) (given_sheet go.before) true
-fine go next = accepted (queue go.before next) (given_sheet go.before) true (sym (tried go.before next) ∙ go.if1.false)
+fine : (go : tie.Else-why-ne0) (next : List ℕ) → Accepted (queue go.before next) (given_sheet go.before) true
+fine go next = accepted (queue go.before next) (given_sheet go.before) true (sym (tried go.before next) ∙ go.if-why-ne0.false)
 
-returns : tie.Need-returns
+returns : tie.Need-returns-then-why-ne0
 unfolding sheet
 returns c next =
     let why = c.before.before in
     let e = tried why next in
-    c.refused.ensures ∙ ap refused e ∙ judge-unfit (queue why next) (given_sheet why) true (λ z. c.before.if1.true (e ∙ z))
+    c.refused.ensures ∙ ap refused e ∙ judge-unfit (queue why next) (given_sheet why) true (λ z. c.before.if-why-ne0.true (e ∙ z))
 
 -- What the walk noted.
 module _ (walked : tie.After-extents) where
   abbrev low : List ℕ
-  low = walked.extents.new.1.1.1.1.1.0
+  low = walked.extents.new.low
 
   abbrev high : List ℕ
-  high = walked.extents.last.1.1.1.1.1.1.0
+  high = walked.extents.new.high
 
 extents_requires : tie.Need-extents-requires
 extents_requires c κs = let go = c.before.before in slots_few (start go.before).args.c (fine go []).control
 
-returns-2 : tie.Need-returns-2
+returns-2 : tie.Need-returns-then-not-extents
 unfolding sheet
 returns-2 c next =
     let walked = c.before.before.before.before in
     let go = walked.before.before.before in
-    c.refused2.ensures ∙ judge-lost (queue go.before next) (given_sheet go.before) true (fine go next)
-    (told-lost walked.extents.result (low walked) (high walked) (not-true _ c.before.if2.true) walked.extents.ensures)
+    c.refused-then-not-extents.ensures ∙ judge-lost (queue go.before next) (given_sheet go.before) true (fine go next)
+    (told-lost walked.extents.result (low walked) (high walked) c.before.if-not-extents.true walked.extents.ensures)
 
 first_broken_requires : tie.Need-first_broken-requires
 first_broken_requires c κs =
@@ -68,7 +68,7 @@ first_broken_requires c κs =
     let f = formed (given_sheet go.before) (fine go []).form in
     (f.few, f.inside)
 
-returns-3 : tie.Need-returns-3
+returns-3 : tie.Need-returns
 unfolding sheet
 returns-3 c next =
     let sound = c.before in
@@ -80,20 +80,20 @@ returns-3 c next =
     let f = square_marks (linked s.rules n) in
     c.first_broken.ensures ∙ ap (λ (m : List (List ℕ)). in_rows (crossed byte_row m (low walked) (high walked)) n 1 n) f
     ∙ judge-told (queue go.before next) s true (fine go next) byte_row bytes bytes_show []
-    _ (told-made walked.extents.result (low walked) (high walked) (not-false _ sound.if2.false) x)
+    _ (told-made walked.extents.result (low walked) (high walked) sound.if-not-extents.false x)
 
 pub sheet_spec : {M : Type 1} → statement M
 sheet_spec =
     tie.close
     (tie.spec
-    (λ c κs. search needs)
-    (λ c κs. search needs)
-    (λ c κs. search needs)
+    (λ c κs. search rules)
+    (λ c κs. search rules)
+    (λ c κs. search rules)
     returns
-    (λ c. search needs)
-    (λ c. search needs)
+    (λ c. search rules)
+    (λ c. search rules)
     extents_requires
-    (λ c κs. search needs)
+    (λ c κs. search rules)
     returns-2
     first_broken_requires
     returns-3)

@@ -2,7 +2,7 @@ use mathlib.Core.{Bool.{Bool, false, ◌&&◌}, List.{List, []}, Path.{◌≡◌
 use Prim.Native.Nat.{ℕ, ◌≤◌}
 use native.Mathlib.Omega.{arith}
 use lib.{Dec.leb, ListN.{length, drop}}
-use borrow.Author.{Tests.{leb-true, not-true, not-false}, Needs.needs}
+use borrow.Author.{Tests.{leb-true}, Rules.rules}
 use Rattle.model.{specs.{Tables.{Tables, tables_of}, Sound.{control_sound, rows_fit}}, proofs.Tests.Truth.and-true}
 use Rattle.sound.specs.Lengths.{lengths_fit}
 use Rattle.sheet.specs.{Refusals.unfit, Squares.{bit_row, crossed}, Search.in_rows}
@@ -14,7 +14,7 @@ use Rattle.sheet.proofs.{Printed.{rows_code, printed-refused, printed-told}, she
 use Rattle.sheet.proofs.sheet_words.Tie as tie
 
 -- The sheet, the queue whatever its next rows, the lent words, and the beginning.
-module _ (why : tie.After-unfit) where
+module _ (why : tie.After-unfit-why) where
   abbrev start : tie.Start
   start = let lists = why.before.before.before.before in let first = lists.before.before.before.before in first.before
 
@@ -32,43 +32,43 @@ module _ (why : tie.After-unfit) where
 
   -- What was tried before the walk, in the model's terms.
   tried : (next : List ℕ)
-      → (let c = start.args.c in why.unfit.result ≡ unfit (control_sound c) (malformed given_sheet) (rows_fit false c.slots (queue next) && enough))
+      → (let c = start.args.c in why.unfit-why.result ≡ unfit (control_sound c) (malformed given_sheet) (rows_fit false c.slots (queue next) && enough))
   unfolding lengths_fit rows_fit
-  tried next = why.unfit.ensures
-      ∙ ap (λ (b : Bool). unfit (control_sound start.args.c) (malformed given_sheet) (b && enough)) why.before.rows_fit.ensures
+  tried next = why.unfit-why.ensures
+      ∙ ap (λ (b : Bool). unfit (control_sound start.args.c) (malformed given_sheet) (b && enough)) why.before.rows_fit-fits.ensures
 
-fine : (go : tie.Else1) (next : List ℕ) → Accepted (queue go.before next) (given_sheet go.before) (enough go.before)
-fine go next = accepted (queue go.before next) (given_sheet go.before) (enough go.before) (sym (tried go.before next) ∙ go.if1.false)
+fine : (go : tie.Else-why-ne0) (next : List ℕ) → Accepted (queue go.before next) (given_sheet go.before) (enough go.before)
+fine go next = accepted (queue go.before next) (given_sheet go.before) (enough go.before) (sym (tried go.before next) ∙ go.if-why-ne0.false)
 
-returns : tie.Need-returns
+returns : tie.Need-returns-then-why-ne0
 returns c next =
     let why = c.before.before in
     let e = tried why next in
     printed-refused (queue why next) (given_sheet why) (words why) c.refused.result
-    (c.refused.ensures ∙ ap refused e ∙ judge-unfit (queue why next) (given_sheet why) (enough why) (λ z. c.before.if1.true (e ∙ z)))
-    (λ z. c.before.if1.true (sym (ap (λ (r : SheetReply). r.code) c.refused.ensures) ∙ z))
+    (c.refused.ensures ∙ ap refused e ∙ judge-unfit (queue why next) (given_sheet why) (enough why) (λ z. c.before.if-why-ne0.true (e ∙ z)))
+    (λ z. c.before.if-why-ne0.true (sym (ap (λ (r : SheetReply). r.code) c.refused.ensures) ∙ z))
 
 -- What the walk noted.
 module _ (walked : tie.After-extents) where
   abbrev low : List ℕ
-  low = walked.extents.new.1.1.1.1.1.0
+  low = walked.extents.new.low
 
   abbrev high : List ℕ
-  high = walked.extents.last.1.1.1.1.1.1.0
+  high = walked.extents.new.high
 
 extents_requires : tie.Need-extents-requires
 extents_requires c κs = let go = c.before.before in slots_few (start go.before).args.c (fine go []).control
 
-returns-2 : tie.Need-returns-2
+returns-2 : tie.Need-returns-then-not-extents
 returns-2 c next =
     let walked = c.before.before.before.before in
     let go = walked.before.before.before in
     let why = go.before in
     let x = walked.extents.ensures in
-    printed-refused (queue why next) (given_sheet why) (words why) c.refused2.result
-    (c.refused2.ensures ∙ judge-lost (queue why next) (given_sheet why) (enough why) (fine go next)
-    (told-lost walked.extents.result (low walked) (high walked) (not-true _ c.before.if2.true) x))
-    (λ z. let y : ◌≡◌ {A = ℕ} 34 0 = sym (ap (λ (r : SheetReply). r.code) c.refused2.ensures) ∙ z in omega arith)
+    printed-refused (queue why next) (given_sheet why) (words why) c.refused-then-not-extents.result
+    (c.refused-then-not-extents.ensures ∙ judge-lost (queue why next) (given_sheet why) (enough why) (fine go next)
+    (told-lost walked.extents.result (low walked) (high walked) c.before.if-not-extents.true x))
+    (λ z. let y : ◌≡◌ {A = ℕ} 34 0 = sym (ap (λ (r : SheetReply). r.code) c.refused-then-not-extents.ensures) ∙ z in omega arith)
 
 closure_requires : tie.Need-closure-requires
 closure_requires c κs =
@@ -81,7 +81,7 @@ closure_requires c κs =
 
 first_broken_requires : tie.Need-first_broken-requires
 first_broken_requires c κs =
-    let closed = c.before.before.before in
+    let closed = c.before.before in
     let sound = closed.before.before in
     let walked = sound.before.before.before in
     let go = walked.before.before.before in (
@@ -89,10 +89,10 @@ first_broken_requires c κs =
       (formed (given_sheet go.before) (fine go []).form).few,
     )
 
-returns-3 : tie.Need-returns-3
+returns-3 : tie.Need-returns
 unfolding words_of
 returns-3 c next =
-    let closed = c.before.before.before.before in
+    let closed = c.before.before.before in
     let sound = closed.before.before in
     let walked = sound.before.before.before in
     let go = walked.before.before.before in
@@ -101,26 +101,26 @@ returns-3 c next =
     let x = walked.extents.ensures in
     let f = closed.closure.ensures in
     let told = c.first_broken.ensures in
-    printed-told (queue why next) (given_sheet why) (words why) c.first_broken.result closed.closure.new.0
+    printed-told (queue why next) (given_sheet why) (words why) c.first_broken.result closed.closure.new.words
     (told ∙ ap (λ (m : List ℕ). in_rows (crossed bit_row m (low walked) (high walked)) n 1 n) f
     ∙ judge-told (queue why next) (given_sheet why) (enough why) (fine go next) bit_row bits bits_show (drop 32 (words why))
-    _ (told-made walked.extents.result (low walked) (high walked) (not-false _ sound.if2.false) x))
+    _ (told-made walked.extents.result (low walked) (high walked) sound.if-not-extents.false x))
     (ap (λ (r : SheetReply). r.code) told ∙ rows_code _ n 1 n) f
 
 pub sheet_words_spec : {M : Type 1} → statement M
 sheet_words_spec =
     tie.close
     (tie.spec
-    (λ c κs. search needs)
-    (λ c κs. search needs)
-    (λ c κs. search needs)
+    (λ c κs. search rules)
+    (λ c κs. search rules)
+    (λ c κs. search rules)
     returns
-    (λ c. search needs)
-    (λ c. search needs)
+    (λ c. search rules)
+    (λ c. search rules)
     extents_requires
-    (λ c κs. search needs)
+    (λ c κs. search rules)
     returns-2
     closure_requires
     first_broken_requires
-    (λ c. search needs)
+    (λ c. search rules)
     returns-3)

@@ -7,13 +7,13 @@ use Rattle.shelf.specs.Lent.{controls_of}
 use Rattle.shelf.proofs.{Controls.{control-put, length_controls}, put_control.Statement.statement}
 use Rattle.shelf.proofs.put_control.Tie as tie
 
-returns : tie.Need-returns
+returns : tie.Need-returns-then-n-controls
 returns c = control-put _ _ _
 
-returns-2 : tie.Need-returns-2
+returns-2 : tie.Need-returns-else-n-controls
 returns-2 c =
     let rows = c.before.args.controls.now in
-    let past = c.if1.false in
+    let past = c.if-n-controls.false in
     sym (set_out (controls_of rows) _ _ (omega (arith, length_controls rows)))
 
 pub put_control_spec : {M : Type 1} → statement M

@@ -4,7 +4,7 @@ use borrow.Author.Rules.{rules}
 use Rattle.shelf.proofs.{Changing.{return_low, returning-lent, returning-refused}, zc_return.Statement.statement}
 use Rattle.shelf.proofs.zc_return.Tie as tie
 
-returns : tie.Need-returns
+returns : tie.Need-returns-then-why-ne0
 returns c =
     let asked = c.before in
     let told = asked.before in
@@ -14,15 +14,15 @@ returns c =
     let a = lent.before.before.before.before.args in
     returning-refused a.control.now a.records.now a.lefts.now a.rights.now a.labels.now a.marks.now a.next.now
     a.controls8.now a.records8.now a.lefts8.now a.rights8.now a.labels8.now a.marks8.now a.next8.now a.shelf
-    _ (told.control_of.ensures ∙ read.control_at.ensures) _ asked.return_refusal.ensures c.if1.true
+    _ (told.control_of-c.ensures ∙ read.control_at-row.ensures) _ asked.return_refusal-why.ensures c.if-why-ne0.true
 
 low : tie.Need-take_tables-requires
 low c _ =
     let lent = c.before.before.before.before in
     let passed = lent.before.before.before.before in
-    return_low _ _ _ _ _ _ passed.before.return_refusal.ensures passed.if1.false
+    return_low _ _ _ _ _ _ passed.before.return_refusal-why.ensures passed.if-why-ne0.false
 
-returns-2 : tie.Need-returns-2
+returns-2 : tie.Need-returns
 returns-2 c =
     let marks = c.before.before.before.before in
     let rights = marks.before.before.before.before in
@@ -39,7 +39,7 @@ returns-2 c =
     let put = tables.take_tables.ensures in
     returning-lent a.control.now a.records.now a.lefts.now a.rights.now a.labels.now a.marks.now a.next.now
     a.controls8.now a.records8.now a.lefts8.now a.rights8.now a.labels8.now a.marks8.now a.next8.now a.shelf
-    _ _ _ _ _ _ _ _ told.control_of.ensures read.control_at.ensures _ asked.return_refusal.ensures passed.if1.false
+    _ _ _ _ _ _ _ _ told.control_of-c.ensures read.control_at-row.ensures _ asked.return_refusal-why.ensures passed.if-why-ne0.false
     rows.take_rows.ensures put.0 put.1.0 put.1.1.0 put.1.1.1.0 put.1.1.1.1
 
 pub zc_return_spec : {M : Type 1} → statement M

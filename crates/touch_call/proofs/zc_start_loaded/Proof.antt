@@ -13,7 +13,7 @@ returns c =
     let was = a.task.now in
     c.start_loaded.ensures
     ∙ ap (λ (s : Start). loaded_by a.pooled a.slots (upper_of was) (record_of was) s a.anchor)
-    st.start_of_lem.ensures
+    st.start_of-s.ensures
 
 pub zc_start_loaded_spec : {M : Type 1} → statement M
 zc_start_loaded_spec = tie.close (tie.spec (λ c κs. search rules) (λ c κs. search rules) returns)

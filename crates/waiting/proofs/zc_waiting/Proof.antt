@@ -14,7 +14,7 @@ returns c next =
     let a = s.before.before.before.before.args in
     w.read_out.ensures next
     ∙ ap (λ (q : Tables). read_out q a.slots.now a.copies.now)
-    (ap (λ (d : Control). tables_of d a.lefts.now a.rights.now a.labels.now a.marks.now next) r.control_of.ensures)
+    (ap (λ (d : Control). tables_of d a.lefts.now a.rights.now a.labels.now a.marks.now next) r.control_of-c.ensures)
 
 pub zc_waiting_spec : {M : Type 1} → statement M
 zc_waiting_spec = tie.close (tie.spec (λ _ _. tt) (λ _ _. tt) (λ c. search rules) (λ c. search rules) returns)

@@ -19,9 +19,9 @@ returns c a b d e f g h i j k l =
     let given = lists.before.before.before.before.args in
     c.later_refusal.ensures
     ∙ (λ z. later_refusal
-    (every (first.at_rest.ensures a b d e f z ∷ second.at_rest2.ensures g h i j k z ∷ third.is_fresh.ensures l z ∷ []))
+    (every (first.at_rest-a.ensures a b d e f z ∷ second.at_rest-b.ensures g h i j k z ∷ third.is_fresh-c.ensures l z ∷ []))
     (ltb given.third.slots (given.n + given.m))
-    (late_for (anchor.unpack.ensures z).tag (given.n + given.m)))
+    (late_for (anchor.unpack-anchor.ensures z).tag (given.n + given.m)))
 
 pub final_rules_spec : {M : Type 1} → statement M
 final_rules_spec = tie.close (tie.spec (λ _ _. tt) (λ _ _. tt) (λ c κs. search rules) (λ _ _. tt) (λ c κs. search rules) returns)

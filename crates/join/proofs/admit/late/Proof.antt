@@ -3,7 +3,7 @@ use mathlib.Core.{Path.◌≡◌, Bool.true}
 use Prim.Native.Nat.{ℕ, ◌-◌, ◌*◌, ◌<◌, ◌≤◌}
 use native.Mathlib.Omega.{arith}
 use lib.Dec.{eqb, ltb}
-use borrow.Author.{Needs.needs, Tests.{ne_eqb, eqb-false, lt-ltb, le-ltb, ltb-true}}
+use borrow.Author.{Rules.rules, Tests.{ne_eqb, eqb-false, lt-ltb, le-ltb, ltb-true}}
 use Rattle.model.proofs.Tests.Truth.{agree, split}
 use Rattle.join_model.specs.Closed.{late_for, tag_after}
 use Rattle.join.proofs.admit.late.Statement.{statement}
@@ -29,20 +29,20 @@ room tag n z o h =
     (λ e. lt-ltb 4294967262 last (omega (arith, ltb-true (4294967262 - tag) (2 * (n - 1) - 1) e)))
     (λ e. lt-ltb (4294967262 - tag) (2 * (n - 1) - 1) (omega (arith, ltb-true 4294967262 last e))))
 
-returns : tie.Need-returns
+returns : tie.Need-returns-then-n-eq0
 unfolding late_for
-returns c = rw c.if1.true
+returns c = rw c.if-n-eq0.true
 
-returns-2 : tie.Need-returns-2
-returns-2 c = high _ _ c.before.if1.false c.if2.true
+returns-2 : tie.Need-returns-then-tag-gt-LAST_TAG
+returns-2 c = high _ _ c.before.if-n-eq0.false c.if-tag-gt-LAST_TAG.true
 
-returns-3 : tie.Need-returns-3
+returns-3 : tie.Need-returns-then-n-eq1
 unfolding late_for
-returns-3 c = let a = c.before.before.before.args in rw (c.if3.true, le-ltb 4294967262 a.tag c.before.if2.false)
+returns-3 c = let a = c.before.before.before.args in rw (c.if-n-eq1.true, le-ltb 4294967262 a.tag c.before.if-tag-gt-LAST_TAG.false)
 
-returns-4 : tie.Need-returns-4
-returns-4 c = let a = c.before.before.before.args in room a.tag a.n c.before.before.if1.false c.if3.false c.before.if2.false
+returns-4 : tie.Need-returns
+returns-4 c = let a = c.before.before.before.args in room a.tag a.n c.before.before.if-n-eq0.false c.if-n-eq1.false c.before.if-tag-gt-LAST_TAG.false
 
 pub late_spec : {M : Type 1} → statement M
 late_spec =
-    tie.close (tie.spec returns returns-2 returns-3 (λ c. search needs) (λ c. search needs) (λ c. search needs) returns-4)
+    tie.close (tie.spec returns returns-2 returns-3 (λ c. search rules) (λ c. search rules) (λ c. search rules) returns-4)

@@ -12,7 +12,7 @@ returns c =
     let first = second.before in
     let a = first.before.args in
     c.tests_refusal.ensures
-    ∙ (λ i. tests_refusal (first.control_sound.ensures i) (second.control_sound2.ensures i) (third.control_sound3.ensures i)
+    ∙ (λ i. tests_refusal (first.control_sound-a.ensures i) (second.control_sound-b.ensures i) (third.control_sound-c.ensures i)
     (every (a.fits1 ∷ a.fits2 ∷ a.fits3 ∷ [])))
 
 pub table_rules_spec : {M : Type 1} → statement M

@@ -5,26 +5,26 @@ use Rattle.join.specs.Admits.{walked}
 use Rattle.join.proofs.admit.walks.Statement.{statement}
 use Rattle.join.proofs.admit.walks.Tie as tie
 
-returns : tie.Need-returns
+returns : tie.Need-returns-in_default
 returns c l m n x y z =
-    let v = c.before.before.before in
-    let two = v.waiting2.ensures x y z in
-    c.refused.ensures ∙ (λ i. walked ((sym c.before.enum_told.given.1 ∙ v.before.waiting.ensures l m n) i) (two i))
+    let v = c.before.before in
+    let two = v.waiting-two.ensures x y z in
+    c.refused.ensures ∙ (λ i. walked ((sym c.before.in_default.is ∙ v.before.waiting-one.ensures l m n) i) (two i))
 
-returns-2 : tie.Need-returns-2
+returns-2 : tie.Need-returns-in_default-two
 returns-2 c l m n x y z =
-    let o = c.before.before.before.before in
-    let v = o.before.before in
-    let one = sym o.one.given.1 ∙ v.before.waiting.ensures l m n in
-    c.refused2.ensures ∙ (λ i. walked (one i) ((sym c.before.enum-told2.given.1 ∙ v.waiting2.ensures x y z) i))
+    let o = c.before.before in
+    let v = o.before in
+    let one = sym o.in-Labels.is ∙ v.before.waiting-one.ensures l m n in
+    c.refused-in_default-two.ensures ∙ (λ i. walked (one i) ((sym c.before.in_default-two.is ∙ v.waiting-two.ensures x y z) i))
 
-returns-3 : tie.Need-returns-3
+returns-3 : tie.Need-returns
 returns-3 c l m n x y z =
-    let t = c.before in
-    let o = t.before.before.before in
-    let v = o.before.before in
-    let one = sym o.one.given.1 ∙ v.before.waiting.ensures l m n in
-    let two = sym t.two.given.1 ∙ v.waiting2.ensures x y z in
+    let t = c in
+    let o = t.before in
+    let v = o.before in
+    let one = sym o.in-Labels.is ∙ v.before.waiting-one.ensures l m n in
+    let two = sym t.in-Labels-two.is ∙ v.waiting-two.ensures x y z in
     λ i. walked (one i) (two i)
 
 pub walks_spec : {M : Type 1} → statement M

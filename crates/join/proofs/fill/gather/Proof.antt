@@ -13,53 +13,53 @@ record Kept (n end : ℕ) (links before now : List ℕ) (k x : ℕ) : Type 0 whe
   at : x ≡ trail links end k
   done : now ≡ filled (walked_to links end) k before
 
-abbrev invariant-loop : tie.invariant-loop
+abbrev invariant-loop : tie.invariant-loop-k
 invariant-loop n end links out₀ k₀ x₀ out k x = Kept n end links out₀ out k x
 
-abbrev decreases-loop : tie.decreases-loop
+abbrev decreases-loop : tie.decreases-loop-k
 decreases-loop n end links out₀ k₀ x₀ out k x = n - k
 
-loop-holds : tie.Need-loop-init invariant-loop decreases-loop
+loop-holds : tie.Need-loop-k-init invariant-loop decreases-loop
 unfolding trail
 loop-holds c = record { few = omega arith; at = refl; done = refl }
 
-loop-again : tie.Need-loop-preserved invariant-loop decreases-loop
+loop-again : tie.Need-loop-k-preserved invariant-loop decreases-loop
 loop-again c =
     let put = c.before.before.before in
     let l = put.before.before.before in
     let a = l.before.before.before.args in
     record {
-      few = omega (arith, put.before.before.loop-test.true);
+      few = omega (arith, put.before.before.loop-k-test.true);
       at =
-          c.follow.ensures
-          ∙ trail_more a.links.now a.end l.loop.k l.loop.x l.loop.invariant.at;
+          c.follow-x.ensures
+          ∙ trail_more a.links.now a.end l.loop-k.k l.loop-k.x l.loop-k.invariant.at;
       done =
-          put.put_word.ensures ∙ filled_more (walked_to a.links.now a.end) l.loop.k a.out.now l.loop.out l.loop.x
-          l.loop.invariant.done (at_row a.links.now a.end l.loop.x l.loop.k l.loop.invariant.at);
+          put.put_word.ensures ∙ filled_more (walked_to a.links.now a.end) l.loop-k.k a.out.now l.loop-k.out l.loop-k.x
+          l.loop-k.invariant.done (at_row a.links.now a.end l.loop-k.x l.loop-k.k l.loop-k.invariant.at);
     }
   where
     at_row : (links : List ℕ) (end x k : ℕ) → x ≡ trail links end k → x ≡ walked_to links end (k + 1)
     at_row links end x k e = let s : k ≡ k + 1 - 1 = omega arith in e ∙ ap (trail links end) s
 
-follow_requires : tie.Need-follow-requires invariant-loop decreases-loop
+follow_requires : tie.Need-follow-x-requires invariant-loop decreases-loop
 follow_requires c κs =
     let put = c.before.before in
     let l = put.before.before.before in
     let s = l.before.before.before in
-    subst (λ (x : ℕ). x < length s.args.links.now) (sym l.loop.invariant.at) (s.requires l.loop.k put.before.before.loop-test.true)
+    subst (λ (x : ℕ). x < length s.args.links.now) (sym l.loop-k.invariant.at) (s.requires l.loop-k.k put.before.before.loop-k-test.true)
 
-same_length : tie.Need-same-length invariant-loop decreases-loop
+same_length : tie.Need-shape_of-out invariant-loop decreases-loop
 same_length c =
     let l = c.before in
     let a = l.before.before.before.args in
-    ap length l.loop.invariant.done ∙ filled_length (walked_to a.links.now a.end) l.loop.k a.out.now
+    ap length l.loop-k.invariant.done ∙ filled_length (walked_to a.links.now a.end) l.loop-k.k a.out.now
 
 returns : tie.Need-returns invariant-loop decreases-loop
 returns c =
     let l = c.before in
     let a = l.before.before.before.args in
-    let e : l.loop.k ≡ a.n = omega (arith, l.loop.invariant.few, c.loop-test.false) in
-    l.loop.invariant.done ∙ ap (λ (k : ℕ). filled (walked_to a.links.now a.end) k a.out.now) e
+    let e : l.loop-k.k ≡ a.n = omega (arith, l.loop-k.invariant.few, c.loop-k-test.false) in
+    l.loop-k.invariant.done ∙ ap (λ (k : ℕ). filled (walked_to a.links.now a.end) k a.out.now) e
 
 pub gather_spec : {M : Type 1} → statement M
 gather_spec =

@@ -15,84 +15,85 @@ record Kept (f g : ℕ → ℕ) (n m all : ℕ) (before now : List ℕ) (first s
   rest : drop k (merge (rows_down f n) (rows_down g m)) ≡ merge (rows_down f first) (rows_down g second)
   done : now ≡ filled (label_of (merge (rows_down f n) (rows_down g m))) k before
 
-abbrev invariant-loop : tie.invariant-loop
+abbrev invariant-loop : tie.invariant-loop-k
 invariant-loop n m labels1 labels2 slots1 slots2 labels₀ all first₀ second₀ k₀ labels first second k =
     Kept (label_via labels1 slots1) (label_via labels2 slots2) n m all labels₀ labels first second k
 
-abbrev decreases-loop : tie.decreases-loop
+abbrev decreases-loop : tie.decreases-loop-k
 decreases-loop n m labels1 labels2 slots1 slots2 labels₀ all first₀ second₀ k₀ labels first second k = all - k
 
-loop-holds : tie.Need-loop-init invariant-loop decreases-loop
+loop-holds : tie.Need-loop-k-init invariant-loop decreases-loop
 loop-holds c = record { whole = refl; left = omega arith; rest = refl; done = refl }
 
 -- The places of a turn.
-abbrev turn : tie.After-next invariant-loop decreases-loop → tie.At-loop invariant-loop decreases-loop
+abbrev turn : tie.After-next-t invariant-loop decreases-loop → tie.At-loop-k invariant-loop decreases-loop
 turn t = let r = t.before.before.before in r.before.before.before
 
-abbrev start : tie.At-loop invariant-loop decreases-loop → tie.Start invariant-loop decreases-loop
+abbrev start : tie.At-loop-k invariant-loop decreases-loop → tie.Start invariant-loop decreases-loop
 start l = let k = l.before.before.before in k.before.before.before
 
 -- What went next.
-module _ (t : tie.After-next invariant-loop decreases-loop) where
+module _ (t : tie.After-next-t invariant-loop decreases-loop) where
   abbrev f : ℕ → ℕ
   f = let a = (start (turn t)).args in label_via a.labels1.now a.slots1.now
 
   abbrev g : ℕ → ℕ
   g = let a = (start (turn t)).args in label_via a.labels2.now a.slots2.now
 
-  first-is : f (turn t).loop.first ≡ t.before.before.before.label_at.result
+  first-is : f (turn t).loop-k.first ≡ t.before.before.before.label_at-x.result
   first-is =
       let r = t.before.before.before in
-      sym (r.label_at.ensures ∙ ap (λ (i : ℕ). get_or (start (turn t)).args.labels1.now i 0) r.before.word_at.ensures)
+      sym (r.label_at-x.ensures ∙ ap (λ (i : ℕ). get_or (start (turn t)).args.labels1.now i 0) r.before.word_at.ensures)
 
-  second_is : g (turn t).loop.second ≡ t.before.label_at2.result
+  second_is : g (turn t).loop-k.second ≡ t.before.label_at-y.result
   second_is =
       let r = t.before in
-      sym (r.label_at2.ensures ∙ ap (λ (i : ℕ). get_or (start (turn t)).args.labels2.now i 0) r.before.word_at2.ensures)
+      sym (r.label_at-y.ensures ∙ ap (λ (i : ℕ). get_or (start (turn t)).args.labels2.now i 0) r.before.word_at-in-loop-k.ensures)
 
-  went : drop (turn t).loop.k (merge (rows_down f (start (turn t)).args.n) (rows_down g (start (turn t)).args.m))
-      ≡ t.next.result.label ∷ merge (rows_down f t.next.result.first) (rows_down g t.next.result.second)
-  went = (turn t).loop.inv.rest ∙ t.next.ensures.1 f g first-is second_is
+  went : drop (turn t).loop-k.k (merge (rows_down f (start (turn t)).args.n) (rows_down g (start (turn t)).args.m))
+      ≡ t.next-t.result.label ∷ merge (rows_down f t.next-t.result.first) (rows_down g t.next-t.result.second)
+  went = (turn t).loop-k.invariant.rest ∙ t.next-t.ensures.1 f g first-is second_is
 
-loop-again : tie.Need-loop-preserved invariant-loop decreases-loop
+loop-again : tie.Need-loop-k-preserved invariant-loop decreases-loop
 loop-again c =
     let p = c.before.before in
     let t = p.before.before in
     let l = turn t in
     let a = (start l).args in
-    let more = drop_more _ l.loop.k _ _ (went t) in
+    let more = drop_more _ l.loop-k.k _ _ (went t) in
     record {
-      whole = l.loop.inv.whole;
-      left = omega (arith, l.loop.inv.left, t.next.ensures.0);
+      whole = l.loop-k.invariant.whole;
+      left = omega (arith, l.loop-k.invariant.left, t.next-t.ensures.0);
       rest = more.1;
       done =
-          p.put_label.ensures ∙ filled_more (label_of (merge (rows_down (f t) a.n) (rows_down (g t) a.m))) l.loop.k a.labels.now
-          l.loop.labels _ l.loop.inv.done more.0;
+          p.put_label.ensures ∙ filled_more (label_of (merge (rows_down (f t) a.n) (rows_down (g t) a.m))) l.loop-k.k a.labels.now
+          l.loop-k.labels _ l.loop-k.invariant.done more.0;
     }
 
-same_length : tie.Need-same-length invariant-loop decreases-loop
+same_length : tie.Need-shape_of-labels invariant-loop decreases-loop
 same_length c =
     let l = c.before in
     let a = (start l).args in
-    ap length l.loop.invariant.done ∙ filled_length _ l.loop.k a.labels.now
+    ap length l.loop-k.invariant.done ∙ filled_length (label_of (merge (rows_down (label_via a.labels1.now a.slots1.now) a.n)
+    (rows_down (label_via a.labels2.now a.slots2.now) a.m))) l.loop-k.k a.labels.now
 
 returns : tie.Need-returns invariant-loop decreases-loop
 returns c =
     let l = c.before in
     let a = (start l).args in
-    let e : l.loop.k ≡ a.n + a.m = omega (arith, l.loop.invariant.left, l.loop.invariant.whole, c.loop-test.false) in
+    let e : l.loop-k.k ≡ a.n + a.m = omega (arith, l.loop-k.invariant.left, l.loop-k.invariant.whole, c.loop-k-test.false) in
     let f = label_via a.labels1.now a.slots1.now in
     let g = label_via a.labels2.now a.slots2.now in
-    l.loop.invariant.done ∙ ap (λ (k : ℕ). filled (label_of (merge (rows_down f a.n) (rows_down g a.m))) k a.labels.now) e
+    l.loop-k.invariant.done ∙ ap (λ (k : ℕ). filled (label_of (merge (rows_down f a.n) (rows_down g a.m))) k a.labels.now) e
 
 -- Something remains.
-next-requires : tie.Need-next-requires invariant-loop decreases-loop
+next-requires : tie.Need-next-t-requires invariant-loop decreases-loop
 next-requires c κs =
     let w = c.before.before.before.before in
-    omega (arith, w.loop-test.true, w.before.loop.invariant.left, w.before.loop.invariant.whole)
+    omega (arith, w.loop-k-test.true, w.before.loop-k.invariant.left, w.before.loop-k.invariant.whole)
 
-add_k : tie.Need-overflow-add-k invariant-loop decreases-loop
-add_k c = let l = turn c in omega (arith, l.loop.inv.left, (start l).pre)
+add_k : tie.Need-overflow_add-k invariant-loop decreases-loop
+add_k c = let l = turn c in omega (arith, l.loop-k.invariant.left, (start l).requires)
 
 pub merge_spec : {M : Type 1} → statement M
 merge_spec =
@@ -109,7 +110,7 @@ merge_spec =
     next-requires
     add_k
     (λ _ _. tt)
-    (λ c. let l = turn c.before.before.before.before in omega (arith, l.loop.inv.left))
+    (λ c. let l = turn c.before.before.before.before in omega (arith, l.loop-k.invariant.left))
     loop-again
     same_length
     returns)

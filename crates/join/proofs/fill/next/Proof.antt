@@ -12,34 +12,34 @@ left_of_lem n m h = omega arith
 right_of : (n m : ℕ) → m ≢ 0 → n + (m - 1) + 1 ≡ n + m
 right_of n m h = omega arith
 
-returns : tie.Need-returns
+returns : tie.Need-returns-then-first-eq0
 returns c =
     let s = c.before in
     let a = s.args in (
-      omega (arith, s.requires, c.if1.true),
-      λ f g ex ey. only-second f g a.first a.second a.x a.y ex ey c.if1.true
-          (λ z. omega (arith, s.requires, c.if1.true)),
+      omega (arith, s.requires, c.if-first-eq0.true),
+      λ f g ex ey. only-second f g a.first a.second a.x a.y ex ey c.if-first-eq0.true
+          (λ z. omega (arith, s.requires, c.if-first-eq0.true)),
     )
 
-returns-2 : tie.Need-returns-2
+returns-2 : tie.Need-returns-then-second-eq0
 returns-2 c =
     let a = c.before.before.args in
-    let some = c.before.if1.false in
-    (left_of_lem a.first a.second some, λ f g ex ey. only-first f g a.first a.second a.x a.y ex ey some c.if2.true)
+    let some = c.before.if-first-eq0.false in
+    (left_of_lem a.first a.second some, λ f g ex ey. only-first f g a.first a.second a.x a.y ex ey some c.if-second-eq0.true)
 
-returns-3 : tie.Need-returns-3
+returns-3 : tie.Need-returns-then-x-y
 returns-3 c =
     let e = c.before in
     let a = e.before.before.args in
-    let some = e.before.if1.false in
-    (left_of_lem a.first a.second some, λ f g ex ey. first_goes f g a.first a.second a.x a.y ex ey some e.if2.false c.if3.true)
+    let some = e.before.if-first-eq0.false in
+    (left_of_lem a.first a.second some, λ f g ex ey. first_goes f g a.first a.second a.x a.y ex ey some e.if-second-eq0.false c.if-x-y.true)
 
-returns-4 : tie.Need-returns-4
+returns-4 : tie.Need-returns
 returns-4 c =
     let e = c.before in
     let a = e.before.before.args in (
-      right_of a.first a.second e.if2.false,
-      λ f g ex ey. second-goes f g a.first a.second a.x a.y ex ey e.before.if1.false e.if2.false c.if3.false,
+      right_of a.first a.second e.if-second-eq0.false,
+      λ f g ex ey. second-goes f g a.first a.second a.x a.y ex ey e.before.if-first-eq0.false e.if-second-eq0.false c.if-x-y.false,
     )
 
 pub next_spec : {M : Type 1} → statement M

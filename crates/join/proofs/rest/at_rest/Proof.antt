@@ -10,7 +10,7 @@ use Rattle.join.proofs.rest.at_rest.Tie as tie
 returns : tie.Need-returns
 unfolding at_rest busy
 returns c lefts rights labels marks next =
-    ap₂ (λ (a b : Bool). a && b) c.before.idle.ensures (ap (λ (a : Anchor). eqb a.status 0) c.before.before.unpack.ensures)
+    ap₂ (λ (a b : Bool). a && b) c.before.idle-still.ensures (ap (λ (a : Anchor). eqb a.status 0) c.before.before.unpack-a.ensures)
 
 pub at_rest_spec : {M : Type 1} → statement M
 at_rest_spec = tie.close (tie.spec (λ _ _. tt) (λ _ _. tt) returns)

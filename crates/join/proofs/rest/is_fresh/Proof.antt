@@ -17,16 +17,16 @@ returns c next =
     let anchor = rest.before in
     let given = anchor.before.before in
     let a = given.before.before.before.args in
-    seven (not (is_pooled a.c)) (is_empty anchor.unpack.result) rest.at_rest.result lefts.blank.result rights.blank2.result
-    labels.blank_labels.result marks.blank3.result
+    seven (not (is_pooled a.c)) (is_empty anchor.unpack-a.result) rest.at_rest-rest.result lefts.blank-left.result rights.blank-right.result
+    labels.blank_labels-label.result marks.blank-mark.result
     ∙ (λ i. every
     (not (is_pooled a.c)
-    ∷ is_empty (anchor.unpack.ensures i)
-    ∷ rest.at_rest.ensures a.lefts.now a.rights.now a.labels.now a.marks.now next i
-    ∷ lefts.blank.ensures i
-    ∷ rights.blank2.ensures i
-    ∷ labels.blank_labels.ensures i
-    ∷ marks.blank3.ensures i
+    ∷ is_empty (anchor.unpack-a.ensures i)
+    ∷ rest.at_rest-rest.ensures a.lefts.now a.rights.now a.labels.now a.marks.now next i
+    ∷ lefts.blank-left.ensures i
+    ∷ rights.blank-right.ensures i
+    ∷ labels.blank_labels-label.ensures i
+    ∷ marks.blank-mark.ensures i
     ∷ []))
 
 pub is_fresh_spec : {M : Type 1} → statement M

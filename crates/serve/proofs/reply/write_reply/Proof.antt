@@ -7,10 +7,10 @@ use borrow.Author.Rules.{rules}
 use Rattle.serve.proofs.reply.write_reply.Statement.{statement}
 use Rattle.serve.proofs.reply.write_reply.Tie as tie
 
-slice_write_words_2 : tie.Need-slice-write-words-2
+slice_write_words_2 : tie.Need-bounds-words-at-2
 slice_write_words_2 c = simp length-set (omega arith)
 
-slice_write_words_3 : tie.Need-slice-write-words-3
+slice_write_words_3 : tie.Need-bounds-words-at-3
 slice_write_words_3 c = simp length-set (omega arith)
 
 returns : tie.Need-returns

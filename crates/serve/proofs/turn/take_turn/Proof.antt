@@ -8,9 +8,9 @@ use Rattle.serve.proofs.{Served.a_step, turn.take_turn.Statement.statement}
 use Rattle.serve.proofs.turn.take_turn.Tie as tie
 
 -- From the test to the start; what each operation answers.
-module _ (test : tie.After-struct-known) where
+module _ (test : tie.After-struct_known-1) where
   abbrev first : tie.Start
-  first = let lists = test.before.before.before.before in lists.before.before
+  first = test.before.before.before.before.before.before
 
   abbrev answer : Op → Replied
   answer o =
@@ -19,14 +19,14 @@ module _ (test : tie.After-struct-known) where
       (act (queue_in a.control.now a.records.now a.lefts.now a.rights.now a.labels.now a.marks.now a.next.now)
       a.request.task o)
 
-returns-2 : tie.Need-returns-2
+returns-2 : tie.Need-returns
 returns-2 c =
     let marks = c.before.before.before.before in
     let rights = marks.before.before.before.before in
     let done = rights.before.before.before in
     let lent = done.before.before.before.before in
     let test = lent.before.before.before.before in
-    done.zc_step.ensures ∙ ap (answer test.before) (sym (a_step _ _ _ _ test.if1.false))
+    done.zc_step.ensures ∙ ap (answer test.before) (sym (a_step _ _ _ _ test.if-request-le-PUSH_POOLED.false))
 
 pub take_turn_spec : {M : Type 1} → statement M
 take_turn_spec =

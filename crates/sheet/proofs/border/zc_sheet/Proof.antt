@@ -13,7 +13,7 @@ returns c next =
     let s : Sheet = record { listed = a.listed.now; rules = a.rules.now } in
     c.sheet.ensures next ∙ ap (λ (k : Control). sheet
     (tables_of k a.lefts.now a.rights.now a.labels.now a.marks.now next) s)
-    c.before.control_of.ensures
+    c.before.control_of-c.ensures
 
 pub zc_sheet_spec : {M : Type 1} → statement M
 zc_sheet_spec = tie.close (tie.spec (λ c κs. search rules) (λ c κs. search rules) returns)

@@ -15,7 +15,7 @@ returns c next =
     c.before.before.sheet_words.ensures next
     ∙ ap (λ (k : Control). sheet_words
     (tables_of k a.lefts.now a.rights.now a.labels.now a.marks.now next) s
-    a.words.now) read.control_of.ensures
+    a.words.now) read.control_of-c.ensures
 
 pub zc_sheet_words_spec : {M : Type 1} → statement M
 zc_sheet_words_spec =

@@ -2,16 +2,16 @@ use Rattle.sheet.proofs.{Turns.{lower-out, lower-put, lower-kept}, extents.lower
 use borrow.Author.Rules.{rules}
 use Rattle.sheet.proofs.extents.lower.Tie as tie
 
-returns : tie.Need-returns
-returns c = lower-out c.before.args.t.now c.before.args.k c.before.args.at c.if1.true
+returns : tie.Need-returns-then-t-k
+returns c = lower-out c.before.args.t.now c.before.args.k c.before.args.at c.if-t-k.true
 
-returns-2 : tie.Need-returns-2
+returns-2 : tie.Need-returns-then-at-t
 returns-2 c =
-    lower-put c.before.before.before.args.t.now c.before.before.before.args.k c.before.before.before.args.at c.if2.true
+    lower-put c.before.before.before.args.t.now c.before.before.before.args.k c.before.before.before.args.at c.if-at-t.true
 
-returns-3 : tie.Need-returns-3
+returns-3 : tie.Need-returns-else-at-t
 returns-3 c =
-    lower-kept c.before.before.before.args.t.now c.before.before.before.args.k c.before.before.before.args.at c.if2.false
+    lower-kept c.before.before.before.args.t.now c.before.before.before.args.k c.before.before.before.args.at c.if-at-t.false
 
 pub lower_spec : {M : Type 1} → statement M
 lower_spec =

@@ -6,30 +6,30 @@ use Rattle.sheet_model.specs.Sheet.{twice}
 use Rattle.sheet.proofs.{Turns.{twice-here, twice-on, twice_end}, form.listed_twice.Statement.statement}
 use Rattle.sheet.proofs.form.listed_twice.Tie as tie
 
-abbrev invariant-loop : tie.invariant-loop
+abbrev invariant-loop : tie.invariant-loop-i
 invariant-loop listed n i₀ i =
     (i ≤ length listed) × (twice (drop i listed) ≡ twice listed)
 
-abbrev decreases-loop : tie.decreases-loop
+abbrev decreases-loop : tie.decreases-loop-i
 decreases-loop listed n i₀ i = length listed - i
 
-loop-holds : tie.Need-loop-init invariant-loop decreases-loop
+loop-holds : tie.Need-loop-i-init invariant-loop decreases-loop
 loop-holds c = (search rules, refl)
 
-returns : tie.Need-returns invariant-loop decreases-loop
+returns : tie.Need-returns-then-place_from-n invariant-loop decreases-loop
 returns c =
-    twice-here _ c.before.before.before.before.loop.i c.before.place_from.result (search rules)
-    c.before.before.before.before.loop.invariant.1 c.before.place_from.ensures (search rules)
+    twice-here _ c.before.before.before.before.loop-i.i c.before.place_from.result (search rules)
+    c.before.before.before.before.loop-i.invariant.1 c.before.place_from.ensures (search rules)
 
-loop-again : tie.Need-loop-preserved invariant-loop decreases-loop
+loop-again : tie.Need-loop-i-preserved invariant-loop decreases-loop
 loop-again c = (
   search rules,
-  twice-on _ c.before.before.before.before.loop.i c.before.place_from.result (search rules)
-      c.before.before.before.before.loop.invariant.1 c.before.place_from.ensures (search rules),
+  twice-on _ c.before.before.before.before.loop-i.i c.before.place_from.result (search rules)
+      c.before.before.before.before.loop-i.invariant.1 c.before.place_from.ensures (search rules),
 )
 
-returns-2 : tie.Need-returns-2 invariant-loop decreases-loop
-returns-2 c = twice_end _ c.before.loop.i (search rules) c.before.loop.invariant.1
+returns-2 : tie.Need-returns invariant-loop decreases-loop
+returns-2 c = twice_end _ c.before.loop-i.i (search rules) c.before.loop-i.invariant.1
 
 pub listed_twice_spec : {M : Type 1} → statement M
 listed_twice_spec =

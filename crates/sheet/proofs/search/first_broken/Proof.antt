@@ -6,13 +6,13 @@ use Rattle.sheet.proofs.Turns.{crossed-at, row_here, row_on, row_end, rows_on, r
 use Rattle.sheet.proofs.search.first_broken.Statement.{statement}
 use Rattle.sheet.proofs.search.first_broken.Tie as tie
 
-abbrev invariant-loop : tie.invariant-loop
+abbrev invariant-loop : tie.invariant-loop-b
 invariant-loop square n low high first₀ second₀ a top b₀ first second b =
     (b ≤ n) × (in_row (crossed byte_row square low high) (a + 1) (b + 1) (n - b)
     (in_rows (crossed byte_row square low high) n ((a + 1) + 1) (n - (a + 1))) ≡ in_rows (crossed byte_row square low high) n 1 n) × (first ≡ 0) ×
     (second ≡ 0)
 
-abbrev decreases-loop : tie.decreases-loop
+abbrev decreases-loop : tie.decreases-loop-b
 decreases-loop square n low high first₀ second₀ a top b₀ first second b = n - b
 
 abbrev invariant-pairs : tie.invariant-pairs
@@ -26,28 +26,28 @@ decreases-pairs square n low high first₀ second₀ a₀ first second a = n - a
 pairs-holds : tie.Need-pairs-init invariant-loop decreases-loop invariant-pairs decreases-pairs
 pairs-holds c = (search rules, ap (in_rows _ c.args.n 1) (all_left c.args.n), search rules, search rules)
 
-loop-holds : tie.Need-loop-init invariant-loop decreases-loop invariant-pairs decreases-pairs
+loop-holds : tie.Need-loop-b-init invariant-loop decreases-loop invariant-pairs decreases-pairs
 loop-holds c = (
   search rules,
   (let given = c.before.before.args in let n = given.n in let a = c.before.pairs.a in
-      let p = crossed byte_row given.square.now given.t3 given.t4 in ap
+      let p = crossed byte_row given.square.now given.low given.high in ap
       (λ (k : ℕ). in_row p (a + 1) 1 k (in_rows p n ((a + 1) + 1) (n - (a + 1)))) (all_left n) ∙ sym (rows_on n a p n (search rules))
       ∙ c.before.pairs.invariant.1),
   search rules,
   search rules,
 )
 
-loop-again : tie.Need-loop-preserved invariant-loop decreases-loop invariant-pairs decreases-pairs
+loop-again : tie.Need-loop-b-preserved invariant-loop decreases-loop invariant-pairs decreases-pairs
 loop-again c =
     let turn = c.before.before.before in
     let row = turn.before.before in
     let given = row.before.args in
     let a = row.pairs.a in
-    let b = turn.loop.b in (
+    let b = turn.loop-b.b in (
       search rules,
       row_on given.n b _ (a + 1) _ (search rules)
-          (crossed-at byte_row given.square.now given.t3 given.t4 a b ∙ c.if1.false)
-          ∙ turn.loop.invariant.1,
+          (crossed-at byte_row given.square.now given.low given.high a b ∙ c.if-square-a.false)
+          ∙ turn.loop-b.invariant.1,
       search rules,
       search rules,
     )
@@ -57,27 +57,27 @@ pairs-again c =
     let turn = c.before in
     let start = turn.before.before.before in (
       search rules,
-      sym (row_end start.args.n turn.loop.b _ _ _ (search rules))
-          ∙ turn.loop.invariant.1,
+      sym (row_end start.args.n turn.loop-b.b _ _ _ (search rules))
+          ∙ turn.loop-b.invariant.1,
       search rules,
       search rules,
     )
 
-returns : tie.Need-returns invariant-loop decreases-loop invariant-pairs decreases-pairs
+returns : tie.Need-returns-after-pairs invariant-loop decreases-loop invariant-pairs decreases-pairs
 returns c =
     (λ i. record { code = 0; first = c.before.pairs.invariant.2 i; second = c.before.pairs.invariant.3 i })
     ∙ sym (rows_end c.before.before.args.n c.before.pairs.a _ c.before.before.args.n (search rules)) ∙ c.before.pairs.invariant.1
 
-returns-2 : tie.Need-returns-2 invariant-loop decreases-loop invariant-pairs decreases-pairs
+returns-2 : tie.Need-returns-then-square-a invariant-loop decreases-loop invariant-pairs decreases-pairs
 returns-2 c =
     let turn = c.before.before.before in
     let row = turn.before.before in
     let given = row.before.args in
     let a = row.pairs.a in
-    let b = turn.loop.b in
+    let b = turn.loop-b.b in
     row_here given.n b _ (a + 1) _ (search rules)
-    (crossed-at byte_row given.square.now given.t3 given.t4 a b ∙ c.if1.true)
-    ∙ turn.loop.invariant.1
+    (crossed-at byte_row given.square.now given.low given.high a b ∙ c.if-square-a.true)
+    ∙ turn.loop-b.invariant.1
 
 pub first_broken_spec : {M : Type 1} → statement M
 first_broken_spec =

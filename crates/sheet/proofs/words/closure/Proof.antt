@@ -1,7 +1,7 @@
 use mathlib.Core.{List.{List, ◌++◌}, Path.{◌≡◌, ap, ◌∙◌}}
 use Prim.Native.Nat.{ℕ, ◌≤◌}
 use lib.ListN.{length, drop, replicate}
-use borrow.Author.{Tests.le-leb, Needs.needs}
+use borrow.Author.{Tests.le-leb, Rules.rules}
 use Rattle.table.specs.Zeroing.{zeroing}
 use Rattle.sheet.specs.Squares.{bit_row, rules_marked, rounds}
 use Rattle.sheet.proofs.{BitRows.words-chained, words.closure.Statement.statement}
@@ -26,4 +26,4 @@ returns c =
 
 pub closure_spec : {M : Type 1} → statement M
 closure_spec =
-    tie.close (tie.spec (λ c κs. search needs) (λ c κs. search needs) (λ c κs. search needs) (λ c. search needs) returns)
+    tie.close (tie.spec (λ c κs. search rules) (λ c κs. search rules) (λ c κs. search rules) (λ c. search rules) returns)

@@ -4,16 +4,16 @@ use Rattle.shelf.proofs.{Pasting.{stretch-fits, put_by, unput}, paste.put_labels
 use Rattle.shelf.proofs.paste.put_labels.Tie as tie
 
 fits : tie.Need-move_labels-requires
-fits c κs = let h = stretch-fits _ _ _ _ _ c.before.before.on_shelf.ensures c.before.if1.true in (h.1, h.0)
+fits c κs = let h = stretch-fits _ _ _ _ _ c.before.before.on_shelf-s.ensures c.before.if-s.true in (h.1, h.0)
 
-returns : tie.Need-returns
+returns : tie.Need-returns-then-s
 returns c =
     let copied = c.before.before in
     let test = copied.before.before in
-    put_by _ _ _ _ _ test.before.on_shelf.ensures _ test.if1.true copied.move_labels.ensures
+    put_by _ _ _ _ _ test.before.on_shelf-s.ensures _ test.if-s.true copied.move_labels.ensures
 
-returns-2 : tie.Need-returns-2
-returns-2 c = unput _ _ _ _ _ c.before.on_shelf.ensures c.if1.false
+returns-2 : tie.Need-returns-else-s
+returns-2 c = unput _ _ _ _ _ c.before.on_shelf-s.ensures c.if-s.false
 
 pub put_labels_spec : {M : Type 1} → statement M
 put_labels_spec = tie.close (tie.spec (λ _ _. tt) fits (λ c. search rules) returns returns-2)

@@ -12,8 +12,8 @@ returns c =
     let part = c.before in
     let here = part.before in
     let a = here.before.args in
-    ap₂ (λ (x y : Bool). x && y && leb 8 a.controls) here.tables_fit.ensures
-    (c.tables_fit2.ensures ∙ ap (λ (t : Lengths). tables_fit a.c t) part.eighth.ensures)
+    ap₂ (λ (x y : Bool). x && y && leb 8 a.controls) here.tables_fit-here.ensures
+    (c.tables_fit-there.ensures ∙ ap (λ (t : Lengths). tables_fit a.c t) part.eighth-part.ensures)
 
 pub both_hold_spec : {M : Type 1} → statement M
 both_hold_spec = tie.close (tie.spec (λ _ _. tt) (λ _ _. tt) (λ _ _. tt) returns)

@@ -21,12 +21,12 @@ returns c =
     let a = known1.before.args in (
       lefts.put_words.ensures,
       (
-        rights.put_words2.ensures,
+        rights.put_words-2.ensures,
         (
           labels.put_labels.ensures,
           (
-            marks.put_words3.ensures,
-            last.put_words4.ensures ∙ ap (λ (k : ℕ). put_on a.shelf k a.next.now a.next8.now) stacked.next_rows.ensures,
+            marks.put_words-3.ensures,
+            last.put_words-4.ensures ∙ ap (λ (k : ℕ). put_on a.shelf k a.next.now a.next8.now) stacked.next_rows-stacked.ensures,
           ),
         ),
       ),

@@ -21,12 +21,12 @@ returns c =
     let a = known1.before.args in (
       lefts.take_words.ensures,
       (
-        rights.take_words2.ensures,
+        rights.take_words-2.ensures,
         (
           labels.take_labels.ensures,
           (
-            marks.take_words3.ensures,
-            last.take_words4.ensures ∙ ap (λ (k : ℕ). put_back a.shelf k a.next8.now a.next.now) stacked.next_rows.ensures,
+            marks.take_words-3.ensures,
+            last.take_words-4.ensures ∙ ap (λ (k : ℕ). put_back a.shelf k a.next8.now a.next.now) stacked.next_rows-stacked.ensures,
           ),
         ),
       ),

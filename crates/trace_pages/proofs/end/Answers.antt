@@ -1,0 +1,11 @@
+-- What `finish` wrote is in the buffer, and is what is written out.
+use Rattle.std.proofs.Common.{[], arith}
+use Rattle.trace_replay.{specs.Pieces.last_page, proofs.Bounds.finished-within}
+use Rattle.trace_pages.proofs.end.Goals as goal
+
+pub flush-written-requires : goal.flush-written-requires
+flush-written-requires g c = finished-within _ _ _ (c.finish-q.ensures [] [] [] [] [] []) (omega arith)
+
+pub returns : goal.returns
+unfolding last_page
+returns g c = c.finish-q.ensures

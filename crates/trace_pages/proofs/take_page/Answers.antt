@@ -1,0 +1,11 @@
+-- What `feed` wrote from the front of the buffer is in it, and is what is written out.
+use Rattle.std.proofs.Common.{arith}
+use Rattle.trace_replay.{specs.Pieces.next_page, proofs.Bounds.fed_within}
+use Rattle.trace_pages.proofs.take_page.Goals as goal
+
+pub flush-written-requires : goal.flush-written-requires
+flush-written-requires g c = fed_within _ _ _ c.feed-q.ensures (omega arith)
+
+pub returns : goal.returns
+unfolding next_page
+returns g c = c.feed-q.ensures
