@@ -3,7 +3,7 @@ use mathlib.Core.Path.{◌≡◌, refl, sym, ◌∙◌}
 use Prim.Native.Nat.{◌-◌, ◌≤◌}
 use native.Mathlib.Omega.{arith}
 use lib.ListN.{length}
-use borrow.Author.{Rules.rules, Tests.{not-true, not-false}}
+use borrow.Author.{Rules.rules}
 use Rattle.model.specs.Solo.{solo_run}
 use Rattle.layout.specs.Rows.{queue_in, uppers_of}
 use Rattle.capi_run.proofs.StepsToGo.{to-go, to_go_more, runs_on, answered, refused, stopped, cut}

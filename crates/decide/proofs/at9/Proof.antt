@@ -1,6 +1,6 @@
 -- Each return is one of the cases.
 use mathlib.Core.Path.{◌≡◌, sym, ◌∙◌}
-use borrow.Author.{Tests.{eq-eqb, ne_eqb, not-true, not-false}, Rules.rules}
+use borrow.Author.{Tests.{eq-eqb, ne_eqb}, Rules.rules}
 use Rattle.model.specs.Sound.{from1}
 use Rattle.decide.specs.Decided.{found9}
 use Rattle.decide.proofs.at9.Statement.{statement}

@@ -1,6 +1,5 @@
 -- By the tests.
 use mathlib.Core.Path.{refl, sym, ◌∙◌}
-use borrow.Author.Tests.{not-true, not-false}
 use Rattle.schedule.proofs.unfit_tables.Statement.{statement}
 use Rattle.schedule.proofs.unfit_tables.Tie as tie
 

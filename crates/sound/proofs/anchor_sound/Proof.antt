@@ -1,6 +1,5 @@
 -- Equal ends; of different ones the first that is no slot, or none.
 use mathlib.Core.{Path.{◌≡◌, sym, ap, ◌∙◌}, Bool.Bool}
-use borrow.Author.Tests.{not-true, not-false}
 use Rattle.word.specs.Anchor.{anchor_of}
 use Rattle.model.specs.Sound.{anchor_sound}
 use Rattle.sound.proofs.{Ends.{equal, left_null, right_null, both_slots}, anchor_sound.Statement.statement}

@@ -1,6 +1,6 @@
 -- The first test that fails, or all of a push or of a pop.
 use mathlib.Core.Path.{sym, ◌∙◌}
-use borrow.Author.Tests.{eq-eqb, ne_eqb, not-true, not-false}
+use borrow.Author.Tests.{eq-eqb, ne_eqb}
 use Rattle.sound.specs.Records.{deque_call}
 use Rattle.sound.proofs.{DequePlaces.pops, deque_call.Statement.statement}
 use Rattle.sound.proofs.deque_call.Tie as tie

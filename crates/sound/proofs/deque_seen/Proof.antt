@@ -1,6 +1,5 @@
 -- The left end no slot, no status; from place 5 on, equal ends, or different ones.
 use mathlib.Core.{Path.{◌≡◌, sym, ap, ◌∙◌}, Bool.{Bool, true}}
-use borrow.Author.Tests.{not-true, not-false}
 use Rattle.word.specs.Anchor.{anchor_of}
 use Rattle.model.specs.Sound.{from1}
 use Rattle.sound.specs.Records.{deque_seen}

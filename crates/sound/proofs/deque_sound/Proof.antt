@@ -1,6 +1,6 @@
 -- The first test that fails, or all.
 use mathlib.Core.Path.{sym, ◌∙◌}
-use borrow.Author.Tests.{le-leb, lt-leb, not-true, not-false}
+use borrow.Author.Tests.{le-leb, lt-leb}
 use Rattle.sound.specs.Records.{deque_sound}
 use Rattle.sound.proofs.deque_sound.Statement.{statement}
 use Rattle.sound.proofs.deque_sound.Tie as tie

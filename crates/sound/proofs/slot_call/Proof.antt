@@ -1,6 +1,6 @@
 -- The first test that fails, or all at 11, of a push that draws, or of a pop that gives back.
 use mathlib.Core.Path.{◌∙◌}
-use borrow.Author.Tests.{eq-eqb, ne_eqb, le-leb, lt-leb, not-true, not-false}
+use borrow.Author.Tests.{eq-eqb, ne_eqb, le-leb, lt-leb}
 use Rattle.sound.specs.Records.{slot_call}
 use Rattle.sound.proofs.{SlotPlaces.gives, slot_call.Statement.statement}
 use Rattle.sound.proofs.slot_call.Tie as tie

@@ -1,5 +1,5 @@
 -- Each return is one outcome of the model's `reading`: the tests that led there rewrite it, and its branch is the one picked.
-use mathlib.Core.{Path.{◌≡◌, refl, sym, ◌∙◌}, Bool.{Bool, true, false, ◌&&◌, and-false}, Logic.⊎_elim}
+use mathlib.Core.{Path.{◌≡◌, refl, sym, ◌∙◌}, Bool.{Bool, true, false, ◌&&◌, and-false}}
 use Prim.Native.Nat.{ℕ}
 use lib.Dec.{eqb}
 use borrow.Author.{Rules.rules, Tests.{eq-eqb, ne_eqb, eqb-true}}

@@ -2,7 +2,7 @@
 use mathlib.Core.{Path.{◌≡◌, sym, subst, ◌∙◌}, List.List}
 use Prim.Native.Nat.{ℕ, suc, ◌<◌, ◌≤◌}
 use native.Mathlib.Omega.{arith}
-use borrow.Author.{Rules.rules, Tests.{not-true, not-false}}
+use borrow.Author.{Rules.rules}
 use Rattle.model.specs.{declared.{Control.Control, Call.Call}, Tables.is_pooled, Refusals.record_refusal}
 use Rattle.sound.proofs.{DequePlaces.deque-places, Refused.{no_call, unsound, passes}}
 use Rattle.engine.proofs.InParts.{above}

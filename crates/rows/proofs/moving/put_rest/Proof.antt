@@ -1,6 +1,6 @@
 -- Nothing, the head alone, or own slot and label too.
 use mathlib.Core.Path.{refl, sym, ◌∙◌}
-use borrow.Author.{Tests.{not-true, not-false}, Rules.rules}
+use borrow.Author.{Rules.rules}
 use Rattle.layout.specs.Rows.{record_of}
 use Rattle.engine.proofs.Stored.{rest_end, rest_going, rest-nothing}
 use Rattle.rows.proofs.moving.put_rest.Statement.{statement}

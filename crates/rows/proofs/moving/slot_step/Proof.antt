@@ -2,7 +2,7 @@
 use mathlib.Core.{Path.{◌≡◌, sym, subst, ◌∙◌}, List.{List, []}}
 use Prim.Native.Nat.{ℕ, ◌<◌, ◌≤◌}
 use native.Mathlib.{Nat.le_antisymm, Omega.arith}
-use borrow.Author.{Rules.rules, Tests.{not-true, not-false}}
+use borrow.Author.{Rules.rules}
 use Rattle.model.specs.{declared.{Control.Control, Call.Call}, Tables.{is_pooled, tables_of}, Refusals.record_refusal}
 use Rattle.sound.proofs.{SlotPlaces.slot_places, Refused.{unsound, passes}}
 use Rattle.engine.proofs.InParts.{above, below_18}

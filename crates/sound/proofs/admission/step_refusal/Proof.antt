@@ -1,7 +1,6 @@
 -- Each return is the first rule that applies, by the tests passed before it.
 use mathlib.Core.{Path.{◌≡◌, sym, ◌∙◌}, Bool.{Bool, true, false, ◌&&◌}}
 use lib.Dec.{leb}
-use borrow.Author.Tests.{not-true, not-false}
 use Rattle.model.specs.{Tables.is_pooled, Sound.control_sound}
 use Rattle.sound.specs.Lengths.{lengths_fit}
 use Rattle.sound.proofs.Asked.{by_tasks, by_anchor, by_slots, sound, by_next, by_rows}

@@ -1,6 +1,5 @@
 -- Each return is the first rule that applies, by the tests passed before it.
 use mathlib.Core.Path.{sym, ◌∙◌}
-use borrow.Author.Tests.{not-true, not-false}
 use Rattle.sound.proofs.admission.table_refusal.Statement.{statement}
 use Rattle.sound.proofs.admission.table_refusal.Tie as tie
 
