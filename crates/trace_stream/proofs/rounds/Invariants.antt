@@ -7,7 +7,7 @@ use Rattle.trace_replay.proofs.PageLoop.{Stands}
 use Rattle.trace_stream.proofs.rounds.Given as goal
 
 abbrev pub invariant-loop-turns : goal.invariant-loop-turns
-invariant-loop-turns g l = 
+invariant-loop-turns g l =
     ((o : List ℕ)
     → Stands o
     (page_of l.initial.s l.initial.out l.initial.rows l.initial.lefts l.initial.rights l.initial.labels l.initial.marks l.initial.next)
