@@ -64,23 +64,23 @@
  * FACTS, the most that bench/run.sh saw over random calls; memset's instructions are not counted:
  *                  stack,   instructions at most, by tasks and slots
  *                  bytes      1, 3     5, 12  16, 1023
- *   zc_open            88        78        78        78
- *   zc_open_pooled     88       104       141      2665
- *   zc_push           192       208       208       208
- *   zc_push_pooled    160       178       178       178
- *   zc_pop             40        98        98        98
- *   zc_step           120       198       198       198
- *   zc_step_record    128       194       194       194
- *   zc_run            168      1720      2793      2921
- *   zc_report         216       208       355     13770
+ *   zc_open           120       120       120       120
+ *   zc_open_pooled    136       151       191      2968
+ *   zc_push           192       219       219       219
+ *   zc_push_pooled    160       183       183       183
+ *   zc_pop             40       103       103       103
+ *   zc_step           152       245       245       246
+ *   zc_step_record    152       237       237       239
+ *   zc_run            184      1768      2824      2951
+ *   zc_report         360       239       374     12652
  *   table bytes         -       240       816     30120
- *   stack bytes of the others: zc_waiting 72, zc_find 504, zc_sheet 1576, zc_sheet_words 552,
- *   zc_join 192, zc_save 152, zc_return 104, zc_next_schedule 25864, zc_serve 272,
- *   zc_audit 176, zc_plan 112, zc_settle_plan 224, zc_settle_unasked 272, zc_plan_start 32,
- *   zc_settle_start 40, zc_start_loaded 16
- *   code bytes: audit 711, capi 9211, capi_record 4187, capi_run 7017, find 3125, join 3230,
- *   schedule 7610, serve 8838, sheet 3298, shelf 3713, touch 9803, touch_call 8599,
- *   waiting 686
+ *   stack bytes of the others: zc_waiting 96, zc_find 504, zc_sheet 1504, zc_sheet_words 496,
+ *   zc_join 264, zc_save 200, zc_return 184, zc_next_schedule 20616, zc_serve 320,
+ *   zc_audit 200, zc_plan 160, zc_settle_plan 224, zc_settle_unasked 224, zc_plan_start 48,
+ *   zc_settle_start 48, zc_start_loaded 16
+ *   code bytes: audit 797, capi 10646, capi_record 5399, capi_run 7328, find 3557, join 4054,
+ *   schedule 8361, serve 8973, sheet 3297, shelf 5232, touch 10171, touch_call 8987,
+ *   waiting 885
  * As to the machine: x86-64, System V calling convention. The code uses the red zone (128 bytes
  * below the stack pointer) and SSE registers, no AVX: an interrupt handler that makes a call saves
  * the SSE state first, and an interrupt that is not masked during a call leaves the red zone alone.
