@@ -6,8 +6,11 @@ usage: python3 tools/turn_edits.py        at the top of the repository, once, af
 The toolchain's port.py and tools/respell.py turn sources, definitions and proofs, and leave crates/*/must-fail/*.edit as they were.
 Here each text of such an edit is turned as the two turned the file that it names: own names by tools/respelled.txt, a projection
 written tight (`(c .anchor)` to `c.anchor`, `f a .g` to `(f a).g`), the library's operators and names, and modules of lemmas in
-upper case. Where an edit only wants further names imported, those go to the front of the file's import that has them now.
+upper case. Where an edit only wants further names of the library, those go to the front of the file's import of the Prelude.
 Comment lines stay, but for names of code between backticks. An edit that does not apply afterwards is printed.
+
+It goes by text. An edit of a test in the code also changes the names that Rattle makes of the test, which a proof cites: such an
+edit is then refused for a name, and its text is to be mended by hand so that the test keeps its name.
 """
 
 import os
@@ -49,11 +52,11 @@ BY_HAND = {
 OPERATOR = re.compile(r"\b_([^\w\s(){}\[\],;.:\"]+)_\b")
 PIECE = re.compile(r"(\s*)([(){}\[\],;]|[^\s(){}\[\],;]+)")
 # Words and signs of antt at which an application begins anew.
-ENDS = set("= ≡ + - * / % ^ && || ++ ∷ → × ⊎ ≤ < λ let in record rw use file: old: new:".split()) | set("({[,;")
+ENDS = set("= ≡ + - * / % ^ && || ++ ∷ → × ⊎ ≤ < λ let in record rw use".split()) | set("({[,;")
 
 
 def names(text, renamed):
-    """The text with each name as it is spelled now."""
+    """The text with each name as it is spelled now, those that Rattle makes in a proof too."""
     text = respell.TOKEN.sub(lambda m: renamed.get(m.group(), m.group()), text)
     text = text.replace(".if1 .taken", ".if1 .true").replace("search needs", "search rules").replace("clear-mark", "clear_mark")
     return OPERATOR.sub(r"◌\1◌", text).replace("′", "'").replace("Rattle·", "Rattle.")
