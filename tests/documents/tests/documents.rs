@@ -253,8 +253,7 @@ fn the_picture_of_the_layers_is_up_to_date() {
 }
 
 /// Crates that are not named, but whose types a crate hands on by value; rt must know them.
-const HANDED_ON: [(&str, &str); 3] =
-    [("capi", "word"), ("trace_pages", "model"), ("verdict", "model")];
+const HANDED_ON: [(&str, &str); 2] = [("capi", "word"), ("trace_pages", "model")];
 
 /// A crate of `crates.txt` names each of its dependencies somewhere in its own files.
 #[test]
