@@ -80,7 +80,7 @@ fn touch_refusal(
         8 => 0,
         9 => why_not(decide::at9(c, r, links::link_at(touched::link7(r), lefts, rights))),
         10 => why_unchanged(c, r, decide::new10(r)),
-        11 => why_not(decide::at11(c, r, table::label_at(labels, touched::own_end(r)))),
+        11 => why_not(decide::at11(c, r, table::get_or(labels, touched::own_end(r), 0))),
         12 => why_not(pool::at12(c, r)),
         13 => why_not(pool::at13(c, r, next)),
         14 => why_not(decide::at14(c, r)),

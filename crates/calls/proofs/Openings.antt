@@ -8,7 +8,7 @@ use Rattle.model.specs.{declared.Record.Record, Tables.{Tables, Queue, tables_of
 use Rattle.model.specs.{Refusals.{opening_rules, open_refusal}, Calls.{stacked, opened, open_as, OpenDone}, Lists.zeroed}
 use Rattle.model.proofs.Tests.{Rules.cleared, Truth.and-true}
 use Rattle.model.specs.declared.Opening.TheVariants as opening
-use Rattle.table.specs.{Zeroing.zeroing, Stacking.stacking}
+use Rattle.table.specs.{Filling.filling, Stacking.stacking}
 use Rattle.calls.specs.Opening.{opening_refusal, many_records, OpenedParts, open_tables}
 
 -- No rule applies: the slots are few, and the tables fit.
@@ -26,8 +26,8 @@ accepted tasks slots fits e =
     }
 
 -- A table with more than n entries has its first n + 1 zeroed.
-zeroes : (n : ℕ) (l : List ℕ) → ltb n (length l) ≡ true → zeroing (n + 1) l ≡ zeroed (n + 1) 0 l
-unfolding zeroing
+zeroes : (n : ℕ) (l : List ℕ) → ltb n (length l) ≡ true → filling (n + 1) 0 l ≡ zeroed (n + 1) 0 l
+unfolding filling
 zeroes n l e = rw (le-leb (n + 1) (length l) (omega (arith, ltb-true n (length l) e)))
 
 -- A pooled queue's next table that has a row for each slot is stacked, a named queue's kept.
@@ -56,8 +56,8 @@ module _ (pooled : Bool) (q : Tables) (records tasks slots : ℕ) where
   abbrev opened_tables : ℕ → Tables
   opened_tables tag =
       tables_of (opened_control pooled tasks slots tag)
-      (zeroing (slots + 1) q.lefts) (zeroing (slots + 1) q.rights) (zeroing (slots + 1) q.labels)
-      (zeroing (slots / 64 + 1) q.marks) (stacking pooled slots q.next)
+      (filling (slots + 1) 0 q.lefts) (filling (slots + 1) 0 q.rights) (filling (slots + 1) 0 q.labels)
+      (filling (slots / 64 + 1) 0 q.marks) (stacking pooled slots q.next)
 
   pub opened_parts : (tag : ℕ) → why ≡ 0
       → ◌≡◌ {A = OpenedParts} (record { tables = opened_tables tag; clear = tasks; outcome = opening.Opened })

@@ -97,10 +97,10 @@ pub fn open_tables(
         };
     }
     let rows = slots + 1;
-    table::zero_words(lefts, rows);
-    table::zero_words(rights, rows);
-    table::zero_labels(labels, rows);
-    table::zero_words(marks, slots / 64 + 1);
+    table::fill(lefts, rows, 0);
+    table::fill(rights, rows, 0);
+    table::fill(labels, rows, 0);
+    table::fill(marks, slots / 64 + 1, 0);
     table::stack_slots(pooled, next, slots);
     let control = opened_control(pooled, tasks, slots, tag);
     OpenedTables {

@@ -112,7 +112,7 @@ pub fn push_start(
     if why != 0 {
         return decided(c, r, why, push);
     }
-    table::put_label(labels, slot, label);
+    table::set(labels, slot, label);
     table::set_mark(marks, slot);
     decided(c, r, why, push)
 }

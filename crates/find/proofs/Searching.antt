@@ -6,7 +6,7 @@ use native.Mathlib.Omega.{arith}
 use lib.ListN.{length, get_or, length-reverse, replicate, drop_of_length-le}
 use borrow.Author.Tests.{le-leb}
 use Rattle.model.specs.{declared.Entry.Entry, Walk.{Walk, broken, entries}}
-use Rattle.table.specs.Zeroing.{zeroing}
+use Rattle.table.specs.Filling.{filling}
 use Rattle.walk.specs.{declared.{Way.Way, Tally.TheVariants.Labels}, Ways.turned_back}
 use Rattle.walk.specs.Over.{Made, made, lost, each, over}
 use Rattle.find_model.specs.{declared.FindReply.FindReply, Find.{found, refused}, Noting.{note, turned}}
@@ -69,8 +69,8 @@ pub nothing-found : (f : Noted → Entry → Noted) (s : Noted) (w : Way) (v : W
 nothing-found f s w (entries l) wanted e = absurd (let z : ◌≡◌ {A = ℕ} 0 1 = cc in omega arith)
 nothing-found f s w broken wanted e = refl
 
-pub blanked : (ps : List ℕ) → length ps ≡ 32 → zeroing 32 ps ≡ blank
-unfolding zeroing
+pub blanked : (ps : List ℕ) → length ps ≡ 32 → filling 32 0 ps ≡ blank
+unfolding filling
 blanked ps e =
     rw (le-leb 32 (length ps) (omega arith))
     (ap (λ (l : List ℕ). replicate 32 0 ++ l) (drop_of_length-le ps {i = 32} (omega arith)) ∙ append-nil (replicate 32 0))

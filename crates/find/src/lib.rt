@@ -113,7 +113,7 @@ fn look(
     while n < w.slots {
         ready(n, wanted, sieve);
         n += 1;
-        let label = table::label_at(labels, x);
+        let label = table::get_or(labels, x, 0);
         meet(w.rightward, label, n, wanted, sieve, positions);
         let next = walk::leads(w, lefts, rights, x);
         match next {
@@ -207,7 +207,7 @@ fn search(
     let mut sieve: [u64; 16] = [0; 16];
     let walked = look(w, lefts, rights, labels, wanted, &mut sieve, positions);
     let Tally::Labels(rows) = walked else {
-        table::zero_words(positions, 32);
+        table::fill(positions, 32, 0);
         return Sought { code: 34, rows: 0 };
     };
     if !w.rightward {

@@ -17,7 +17,7 @@ fn gather(n: u64, end: u64, links: &[u64], out: &mut [u64])
     let mut x = end;
     while k < n {
         k += 1;
-        table::put_word(out, k, x);
+        table::set(out, k, x);
         x = walk::follow(links, x);
     }
 }
@@ -87,11 +87,11 @@ fn merge(
     let mut second = m;
     let mut k: u64 = 0;
     while k < all {
-        let x = table::label_at(labels1, table::word_at(slots1, first));
-        let y = table::label_at(labels2, table::word_at(slots2, second));
+        let x = table::get_or(labels1, table::get_or(slots1, first, 0), 0);
+        let y = table::get_or(labels2, table::get_or(slots2, second, 0), 0);
         let t = next(first, second, x, y);
         k += 1;
-        table::put_label(labels, k, t.label);
+        table::set(labels, k, t.label);
         first = t.first;
         second = t.second;
     }
@@ -125,8 +125,8 @@ fn link_up(n: u64, lefts: &mut [u64], rights: &mut [u64], marks: &mut [u64])
         let x = k + 1;
         let left = link_word(0, k);
         let right = right_word(n, x);
-        table::put_word(lefts, x, left);
-        table::put_word(rights, x, right);
+        table::set(lefts, x, left);
+        table::set(rights, x, right);
         table::set_mark(marks, x);
         k = x;
     }

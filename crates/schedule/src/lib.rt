@@ -96,7 +96,7 @@ fn row_at(records: &[[u64; layout::RECORD_WORDS]], task: usize) -> [u64; layout:
 fn memory_length(given: &[u64]) -> u64
     ensures { result ≡ memory_length given.now }
 {
-    let n = table::word_at(given, 0);
+    let n = table::get_or(given, 0, 0);
     if n <= 48 { n } else { 48 }
 }
 
@@ -133,7 +133,7 @@ fn hand_out(
             length: 0,
         };
     }
-    table::put_word(given, 0, f.length);
+    table::set(given, 0, f.length);
     ScheduleReply {
         code: 0,
         ending: f.ending,

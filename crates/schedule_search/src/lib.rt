@@ -81,7 +81,7 @@ fn choose(
     if len <= 48 - left {
         return 2;
     }
-    let least = table::word_at(given, 49 - left);
+    let least = table::get_or(given, 49 - left, 0);
     if t < least {
         return 0;
     }
@@ -93,7 +93,7 @@ fn note(f: Found, given: &mut [u64], at: u64, t: u64)
     ensures { given.new ≡ cond f.found (set given.old at t) given.old }
 {
     if f.found {
-        table::put_word(given, at, t);
+        table::set(given, at, t);
     }
 }
 

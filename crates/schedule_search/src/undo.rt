@@ -34,11 +34,11 @@ fn keep(
     let words = *control;
     let c = layout::control_of(words);
     let slot = asking::row_of(r);
-    let left = table::word_at(lefts, slot);
-    let right = table::word_at(rights, slot);
-    let label = table::label_at(labels, slot);
-    let mark = table::word_at(marks, slot / 64);
-    let next = table::word_at(next, slot);
+    let left = table::get_or(lefts, slot, 0);
+    let right = table::get_or(rights, slot, 0);
+    let label = table::get_or(labels, slot, 0);
+    let mark = table::get_or(marks, slot / 64, 0);
+    let next = table::get_or(next, slot, 0);
     Saved {
         anchor: c.anchor,
         head: c.head,
@@ -76,11 +76,11 @@ fn put_back(
     });
     *control = before;
     let slot = s.slot;
-    table::put_word(lefts, slot, s.left);
-    table::put_word(rights, slot, s.right);
-    table::put_label(labels, slot, s.label);
-    table::put_word(marks, slot / 64, s.mark);
-    table::put_word(next, slot, s.next);
+    table::set(lefts, slot, s.left);
+    table::set(rights, slot, s.right);
+    table::set(labels, slot, s.label);
+    table::set(marks, slot / 64, s.mark);
+    table::set(next, slot, s.next);
 }
 
 /// A step of task t, and what to put back.

@@ -72,7 +72,7 @@ fn gather(
     let mut left = w.slots;
     let mut x = w.first;
     while 0 < left {
-        let k = place_from(listed, 0, table::label_at(labels, x));
+        let k = place_from(listed, 0, table::get_or(labels, x, 0));
         lower(low, k, at);
         raise(high, k, at);
         let next = walk::leads(w, lefts, rights, x);

@@ -45,7 +45,7 @@ pub fn closure(words: &mut [u32], rules: &[u32], n: usize)
     requires { (32 ≤ length words.old) × (n ≤ 32) × (any (outside n) rules.now ≡ false) }
     ensures { words.new ≡ words_of (linked rules.now n) ++ drop 32 words.old }
 {
-    table::zero_labels(words, 32);
+    table::fill(words, 32, 0);
     mark(words, rules, n);
     join(words, n);
 }

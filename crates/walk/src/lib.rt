@@ -72,9 +72,9 @@ fn link_at(w: Way, lefts: &[u64], rights: &[u64], x: u64) -> u64
     ensures { result ≡ get_or (links_on w lefts.now rights.now) x 0 }
 {
     if w.rightward {
-        return table::word_at(rights, x);
+        return table::get_or(rights, x, 0);
     }
-    table::word_at(lefts, x)
+    table::get_or(lefts, x, 0)
 }
 
 /// The slot that the link word of slot x leads to; 0 where the word is unsound or names none.

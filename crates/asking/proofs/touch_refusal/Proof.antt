@@ -64,7 +64,7 @@ returns-11 c ms =
     let decided = c.before in
     let end = decided.before.before in
     c.why_not-in-11.ensures
-    ∙ told11 _ _ _ _ _ ms _ end.before.in-11.is _ (rw (decided.before.label_at.ensures, end.own_end.ensures) at decided.at11.ensures)
+    ∙ told11 _ _ _ _ _ ms _ end.before.in-11.is _ (rw (decided.before.get_or.ensures, end.own_end.ensures) at decided.at11.ensures)
 
 returns-12 : tie.Need-returns-in-12
 returns-12 c ms =

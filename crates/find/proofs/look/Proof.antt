@@ -50,7 +50,7 @@ module _ (k : tie.After-slice_known-in-loop-n-2-1 invariant-loop decreases-loop)
   abbrev m : tie.After-meet invariant-loop decreases-loop
   m = k.before.before
 
-  abbrev label : tie.After-label_at-label invariant-loop decreases-loop
+  abbrev label : tie.After-get_or-label invariant-loop decreases-loop
   label = m.before.before
 
   abbrev test : tie.In-loop-n invariant-loop decreases-loop
@@ -67,7 +67,7 @@ module _ (k : tie.After-slice_known-in-loop-n-2-1 invariant-loop decreases-loop)
   noted-is =
       let a = (given turn).args in
       m.meet.ensures
-      ∙ ap (λ (y : ℕ). note a.w.rightward y (turn.loop-n.n + 1) a.wanted.now turn.loop-n.positions) label.label_at-label.ensures
+      ∙ ap (λ (y : ℕ). note a.w.rightward y (turn.loop-n.n + 1) a.wanted.now turn.loop-n.positions) label.get_or-label.ensures
 
   long-now : length now ≡ length (given turn).args.positions.now
   long-now =

@@ -42,7 +42,7 @@ returns c =
     let long : length (after k) ≡ 32 = omega (arith, size k) in
     let lost = nothing-found (note_on a.w.rightward a.wanted.now) (record { count = 0; positions = blank }) a.w (walk k) a.wanted.now
     (came k _ t.in_default.is) in
-    ap (λ (ps : List ℕ). record { code = 34; rows = 0; positions = ps }) (z.zero_words.ensures ∙ blanked (after k) long) ∙ lost
+    ap (λ (ps : List ℕ). record { code = 34; rows = 0; positions = ps }) (z.fill.ensures ∙ blanked (after k) long) ∙ lost
 
 -- All of the walk went into it.
 module _ (t : tie.In-Labels) where

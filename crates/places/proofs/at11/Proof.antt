@@ -21,7 +21,7 @@ returns c =
     let a = (start tested).args in
     let yes = rw (near tested) at (sym tested.is_slot.ensures ∙ slot.if-is_slot.true) in
     λ ls rs xs k.
-    rw (c.at11.ensures, cleared.clear_mark.ensures, tested.before.label_at-label.ensures, near tested)
+    rw (c.at11.ensures, cleared.clear_mark.ensures, tested.before.get_or-label.ensures, near tested)
     (cleared11 a.c a.r ls rs a.labels.now a.marks.now xs k yes)
 
 returns-2 : tie.Need-returns

@@ -23,7 +23,7 @@ returns-2 c =
     let sought = sought3.before.before in
     let length1 = sought.before.before.before.before in
     let length = length1.before.before.before in
-    next-found _ _ _ _ _ _ length.memory_length-len.ensures sought.search-f.ensures _ (not-false _ found.if-not-f.false) put.put_word.ensures
+    next-found _ _ _ _ _ _ length.memory_length-len.ensures sought.search-f.ensures _ (not-false _ found.if-not-f.false) put.set.ensures
 
 pub hand_out_spec : {M : Type 1} → statement M
 hand_out_spec =

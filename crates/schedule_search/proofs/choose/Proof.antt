@@ -48,7 +48,7 @@ returns-3 c q =
     (binds a.len a.left a.free false after.if-free.false (le-ltb _ _ c.if-len-left.true)) refl refl refl
 
 -- The list binds, and names a task.
-module _ (read : tie.After-word_at-least) (q : Tables) where
+module _ (read : tie.After-get_or-least) (q : Tables) where
   abbrev busy : tie.Else-r-eq0
   busy = read.before.before.before
 
@@ -58,13 +58,13 @@ module _ (read : tie.After-word_at-least) (q : Tables) where
   abbrev a : tie.Start
   a = call.before.before.before
 
-  by_list : (too_soon same : Bool) (c : ℕ) → ltb a.args.t read.word_at-least.result ≡ too_soon → eqb a.args.t read.word_at-least.result ≡ same
+  by_list : (too_soon same : Bool) (c : ℕ) → ltb a.args.t read.get_or-least.result ≡ too_soon → eqb a.args.t read.get_or-least.result ≡ same
       → c ≡ cond too_soon 0 (cond (not same) 2 1)
       → (let s = a.args in
       c ≡ choice s.given.now s.len s.left s.free (record { tables = q; records = records_of s.pair.now }) s.t)
   by_list too_soon same c e₁ e₂ e =
       let s = a.args in
-      let next = sym read.word_at-least.ensures in
+      let next = sym read.get_or-least.ensures in
       told q s.pair.now s.given.now s.len s.left s.free s.t false true too_soon same c _ call.call_at-r.ensures
       (ne_eqb _ _ busy.if-r-eq0.false) (binds s.len s.left s.free true read.before.before.if-free.false (lt-ltb _ _ read.before.if-len-left.false))
       (ap (λ (x : ℕ). ltb s.t x) next ∙ e₁) (ap (λ (x : ℕ). eqb s.t x) next ∙ e₂) e

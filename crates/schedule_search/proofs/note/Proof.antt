@@ -5,7 +5,7 @@ use Rattle.schedule_search.proofs.note.Statement.{statement}
 use Rattle.schedule_search.proofs.note.Tie as tie
 
 returns : tie.Need-returns-then-f
-returns c = let p = c.before.before in rw p.before.before.if-f.true p.put_word.ensures
+returns c = let p = c.before.before in rw p.before.before.if-f.true p.set.ensures
 
 returns-2 : tie.Need-returns-else-f
 returns-2 c = rw c.if-f.false refl

@@ -28,10 +28,10 @@ returns-2 c =
     rw (
       c.opened_control-control.ensures,
       next.stack_slots.ensures,
-      marks.zero_words-3.ensures,
-      labels.zero_labels.ensures,
-      rights.zero_words-2.ensures,
-      lefts.zero_words.ensures,
+      marks.fill-3.ensures,
+      labels.fill.ensures,
+      rights.fill-2.ensures,
+      lefts.fill.ensures,
     )
     (opened_parts _ _ _ _ _ _ (sym test.before.open_refusal-why.ensures ∙ test.if-why-ne0.false))
 

@@ -34,7 +34,7 @@ loop-again c =
           c.follow-x.ensures
           ∙ trail_more a.links.now a.end l.loop-k.k l.loop-k.x l.loop-k.invariant.at;
       done =
-          put.put_word.ensures ∙ filled_more (walked_to a.links.now a.end) l.loop-k.k a.out.now l.loop-k.out l.loop-k.x
+          put.set.ensures ∙ filled_more (walked_to a.links.now a.end) l.loop-k.k a.out.now l.loop-k.out l.loop-k.x
           l.loop-k.invariant.done (at_row a.links.now a.end l.loop-k.x l.loop-k.k l.loop-k.invariant.at);
     }
   where

@@ -26,10 +26,10 @@ link_packed : (k : ℕ) → pack_link (record { tag = 0; slot = k }) ≡ left_of
 link_packed k = let e : k ≡ k + 1 - 1 = omega arith in ap (λ (j : ℕ). pack_link (record { tag = 0; slot = j })) e
 
 -- The places of a turn.
-abbrev lefts-put : tie.After-put_word-in-loop-k invariant-loop decreases-loop → tie.After-put_word invariant-loop decreases-loop
+abbrev lefts-put : tie.After-set-in-loop-k invariant-loop decreases-loop → tie.After-set invariant-loop decreases-loop
 lefts-put r = r.before.before.before.before
 
-abbrev turn : tie.After-put_word invariant-loop decreases-loop → tie.At-loop-k invariant-loop decreases-loop
+abbrev turn : tie.After-set invariant-loop decreases-loop → tie.At-loop-k invariant-loop decreases-loop
 turn p = p.before.before.before.before.before
 
 abbrev start : tie.At-loop-k invariant-loop decreases-loop → tie.Start invariant-loop decreases-loop
@@ -47,9 +47,9 @@ loop-again c =
     let test = p.before.before.before.before.loop-k-test in
     record {
       few = omega (arith, test.true);
-      left = p.put_word.ensures
+      left = p.set.ensures
           ∙ filled_more left_of k a.lefts.now l.loop-k.lefts _ inv.left (p.before.before.before.link_word-left.ensures ∙ link_packed k);
-      right = r.put_word-in-loop-k.ensures ∙ filled_more (right_to a.n) k a.rights.now l.loop-k.rights _ inv.right p.before.before.right_word-right.ensures;
+      right = r.set-in-loop-k.ensures ∙ filled_more (right_to a.n) k a.rights.now l.loop-k.rights _ inv.right p.before.before.right_word-right.ensures;
       mark = m.set_mark.ensures ∙ marked_more k a.marks.now l.loop-k.marks inv.mark;
     }
 

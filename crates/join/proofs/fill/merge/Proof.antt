@@ -40,15 +40,15 @@ module _ (t : tie.After-next-t invariant-loop decreases-loop) where
   abbrev g : ℕ → ℕ
   g = let a = (start (turn t)).args in label_via a.labels2.now a.slots2.now
 
-  first-is : f (turn t).loop-k.first ≡ t.before.before.before.label_at-x.result
+  first-is : f (turn t).loop-k.first ≡ t.before.before.before.get_or-x.result
   first-is =
       let r = t.before.before.before in
-      sym (r.label_at-x.ensures ∙ ap (λ (i : ℕ). get_or (start (turn t)).args.labels1.now i 0) r.before.word_at.ensures)
+      sym (r.get_or-x.ensures ∙ ap (λ (i : ℕ). get_or (start (turn t)).args.labels1.now i 0) r.before.get_or.ensures)
 
-  second_is : g (turn t).loop-k.second ≡ t.before.label_at-y.result
+  second_is : g (turn t).loop-k.second ≡ t.before.get_or-y.result
   second_is =
       let r = t.before in
-      sym (r.label_at-y.ensures ∙ ap (λ (i : ℕ). get_or (start (turn t)).args.labels2.now i 0) r.before.word_at-in-loop-k.ensures)
+      sym (r.get_or-y.ensures ∙ ap (λ (i : ℕ). get_or (start (turn t)).args.labels2.now i 0) r.before.get_or-in-loop-k.ensures)
 
   went : drop (turn t).loop-k.k (merge (rows_down f (start (turn t)).args.n) (rows_down g (start (turn t)).args.m))
       ≡ t.next-t.result.label ∷ merge (rows_down f t.next-t.result.first) (rows_down g t.next-t.result.second)
@@ -66,7 +66,7 @@ loop-again c =
       left = omega (arith, l.loop-k.invariant.left, t.next-t.ensures.0);
       rest = more.1;
       done =
-          p.put_label.ensures ∙ filled_more (label_of (merge (rows_down (f t) a.n) (rows_down (g t) a.m))) l.loop-k.k a.labels.now
+          p.set.ensures ∙ filled_more (label_of (merge (rows_down (f t) a.n) (rows_down (g t) a.m))) l.loop-k.k a.labels.now
           l.loop-k.labels _ l.loop-k.invariant.done more.0;
     }
 

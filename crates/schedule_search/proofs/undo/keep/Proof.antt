@@ -19,11 +19,11 @@ returns c =
       anchor = (control.control_of-c.ensures i).anchor;
       head = (control.control_of-c.ensures i).head;
       slot = slot.row_of-slot.result;
-      left = two.before.word_at-left.ensures i;
-      right = two.word_at-right.ensures i;
-      label = c.before.before.label_at-label.ensures i;
-      mark = c.before.word_at-mark.ensures i;
-      next = c.word_at-next.ensures i;
+      left = two.before.get_or-left.ensures i;
+      right = two.get_or-right.ensures i;
+      label = c.before.before.get_or-label.ensures i;
+      mark = c.before.get_or-mark.ensures i;
+      next = c.get_or-next.ensures i;
     })
     ∙ ap (λ (x : ℕ). saved x (tables_of (control_of a.control.now) a.lefts.now a.rights.now a.labels.now a.marks.now a.next.now))
     slot.row_of-slot.ensures

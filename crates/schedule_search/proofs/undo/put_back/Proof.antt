@@ -18,8 +18,8 @@ returns c =
     let s = lent.before.before.before.args.s in
     let words = row.control_row-before.ensures ∙ ap (λ (k : Control). with_words k s.anchor s.head) control.control_of-c.ensures in
     λ i.
-    tables_of (words i) (lefts.put_word.ensures i) (rights.put_word-2.ensures i) (labels.put_label.ensures i) (marks.put_word-3.ensures i)
-    (next.put_word-4.ensures i)
+    tables_of (words i) (lefts.set.ensures i) (rights.set-2.ensures i) (labels.set.ensures i) (marks.set-3.ensures i)
+    (next.set-4.ensures i)
 
 pub put_back_spec : {M : Type 1} → statement M
 put_back_spec =

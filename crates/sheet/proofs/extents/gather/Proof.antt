@@ -81,9 +81,9 @@ module _ (raised : tie.After-raise invariant-loop decreases-loop) where
       (record { slot = turn.loop-left.x; label = get_or a.labels.now turn.loop-left.x 0 })))
   here =
       let a = (given turn).args in
-      noted-is a.w.rightward a.listed.now place.place_from-k.result place.before.label_at.result _ turn.loop-left.x
+      noted-is a.w.rightward a.listed.now place.place_from-k.result place.before.get_or.result _ turn.loop-left.x
       turn.loop-left.at turn.loop-left.low turn.loop-left.high _ _
-      place.place_from-k.ensures place.before.label_at.ensures lowered.lower.ensures raised.raise.ensures
+      place.place_from-k.ensures place.before.get_or.ensures lowered.lower.ensures raised.raise.ensures
 
 -- A turn, by where the walk goes on.
 module _ (v : tie.After-leads-next invariant-loop decreases-loop) where

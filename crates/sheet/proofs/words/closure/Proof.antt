@@ -2,13 +2,13 @@ use mathlib.Core.{List.{List, ◌++◌}, Path.{◌≡◌, ap, ◌∙◌}}
 use Prim.Native.Nat.{ℕ, ◌≤◌}
 use lib.ListN.{length, drop, replicate}
 use borrow.Author.{Tests.le-leb, Rules.rules}
-use Rattle.table.specs.Zeroing.{zeroing}
+use Rattle.table.specs.Filling.{filling}
 use Rattle.sheet.specs.Squares.{bit_row, rules_marked, rounds}
 use Rattle.sheet.proofs.{BitRows.words-chained, words.closure.Statement.statement}
 use Rattle.sheet.proofs.words.closure.Tie as tie
 
-zeroed-all : (l : List ℕ) → 32 ≤ length l → zeroing 32 l ≡ replicate 32 0 ++ drop 32 l
-unfolding zeroing
+zeroed-all : (l : List ℕ) → 32 ≤ length l → filling 32 0 l ≡ replicate 32 0 ++ drop 32 l
+unfolding filling
 zeroed-all l h = rw (le-leb 32 (length l) h)
 
 returns : tie.Need-returns
@@ -21,7 +21,7 @@ returns c =
     let l = start.args.rules.now in
     let n = start.args.n in
     joined.join.ensures
-    ∙ ap (rounds bit_row n 0 n) (marked.mark.ensures ∙ ap (rules_marked bit_row l) (zeroed.zero_labels.ensures ∙ zeroed-all w start.requires.0))
+    ∙ ap (rounds bit_row n 0 n) (marked.mark.ensures ∙ ap (rules_marked bit_row l) (zeroed.fill.ensures ∙ zeroed-all w start.requires.0))
     ∙ words-chained l n (drop 32 w) start.requires.1 start.requires.2
 
 pub closure_spec : {M : Type 1} → statement M
