@@ -35,12 +35,12 @@ pub at11_spec : {M : Type 1} → statement M
 at11_spec =
     tie.close
     (tie.spec
-    (λ _ _. tt)
-    (λ _ _. tt)
-    (λ _ _. tt)
-    (λ _ _. tt)
-    (λ _ _. tt)
+    (λ c κs. search rules)
+    (λ c κs. search rules)
+    (λ c κs. search rules)
+    (λ c κs. search rules)
+    (λ c κs. search rules)
     (λ c. search rules)
     returns
-    (λ _ _. tt)
+    (λ c κs. search rules)
     returns-2)

@@ -1,4 +1,5 @@
 -- `step13`, with what the calls answer put in.
+use borrow.Author.Rules.{rules}
 use Rattle.places.proofs.{OnStack.step13, pool.at13.Statement.statement}
 use Rattle.places.proofs.pool.at13.Tie as tie
 
@@ -10,4 +11,4 @@ returns c =
     rw (c.at13.ensures, c.before.get_or-n.ensures, read.top.ensures) (step13 a.c a.r ls rs ns ms a.nexts.now k)
 
 pub at13_spec : {M : Type 1} → statement M
-at13_spec = tie.close (tie.spec (λ _ _. tt) (λ _ _. tt) (λ _ _. tt) returns)
+at13_spec = tie.close (tie.spec (λ c κs. search rules) (λ c κs. search rules) (λ c κs. search rules) returns)

@@ -16,4 +16,4 @@ returns c =
 pub at16_spec : {M : Type 1} → statement M
 at16_spec =
     tie.close
-    (tie.spec (λ _ _. tt) (λ _ _. tt) (λ _ _. tt) (λ c. search rules) returns)
+    (tie.spec (λ c κs. search rules) (λ c κs. search rules) (λ c κs. search rules) (λ c. search rules) returns)
