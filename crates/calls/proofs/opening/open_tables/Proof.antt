@@ -28,8 +28,8 @@ returns-2 c =
     rw (
       c.opened_control-control.ensures,
       next.stack_slots.ensures,
-      marks.fill-3.ensures,
-      labels.fill.ensures,
+      marks.fill-4.ensures,
+      labels.fill-3.ensures,
       rights.fill-2.ensures,
       lefts.fill.ensures,
     )
@@ -39,16 +39,16 @@ pub open_tables_spec : {M : Type 1} → statement M
 open_tables_spec =
     tie.close
     (tie.spec
-    (λ _ _. tt)
+    (λ c κs. search rules)
     returns
     add_rows
-    (λ _ _. tt)
-    (λ _ _. tt)
-    (λ _ _. tt)
+    (λ c κs. search rules)
+    (λ c κs. search rules)
+    (λ c κs. search rules)
     (λ c. search rules)
-    (λ _ _. tt)
-    (λ _ _. tt)
-    (λ _ _. tt)
+    (λ c κs. search rules)
+    (λ c κs. search rules)
+    (λ c κs. search rules)
     (λ c. search rules)
     (λ c. search rules)
     (λ c. search rules)
