@@ -8,8 +8,16 @@ use Rattle.model.specs.{declared.Record.Record, Tables.{Tables, Queue, tables_of
 use Rattle.model.specs.{Refusals.{opening_rules, open_refusal}, Calls.{stacked, opened, open_as, OpenDone}, Lists.zeroed}
 use Rattle.model.proofs.Tests.{Rules.cleared, Truth.and-true}
 use Rattle.model.specs.declared.Opening.TheVariants as opening
+use Rattle.sound.specs.{declared.Lengths.Lengths, Lengths.{lengths_of, lengths_fit}}
 use Rattle.table.specs.{Filling.filling, Stacking.stacking}
 use Rattle.calls.specs.Opening.{opening_refusal, many_records, OpenedParts, open_tables}
+
+-- The number found by the lengths is the first rule's.
+pub found : (pooled : Bool) (q : Tables) (n tasks slots r : ℕ) (t : Lengths) → t ≡ lengths_of q n
+    → r ≡ opening_refusal tasks slots (lengths_fit pooled slots t && leb tasks t.records)
+    → r ≡ opening_refusal tasks slots (rows_fit pooled slots q && leb tasks n)
+unfolding rows_fit lengths_fit
+found pooled q n tasks slots r t m e = e ∙ ap (λ (l : Lengths). opening_refusal tasks slots (lengths_fit pooled slots l && leb tasks l.records)) m
 
 -- No rule applies: the slots are few, and the tables fit.
 pub record Accepted (slots : ℕ) (fits : Bool) : Type 0 where

@@ -9,6 +9,7 @@ use Rattle.model.specs.Refusals.{rule, first, fits, table_rules, report_rules, r
 use Rattle.model.specs.Report.{busy, report, tell, told, waiting}
 use Rattle.model.proofs.Tests.{Rules.{cleared, first-refused}, Truth.and-true}
 use Rattle.model.specs.declared.Reported.TheVariants as reported
+use Rattle.sound.specs.{declared.Lengths.Lengths, Lengths.{lengths_of, lengths_fit, tables_fit}}
 use Rattle.walk.specs.{declared.Tally.TheVariants.{Broken, Labels}, Counted.counted}
 use Rattle.walk.proofs.Counting.{none-counted, all-counted}
 use Rattle.calls.specs.Telling.{countable}
@@ -16,6 +17,15 @@ use Rattle.calls.specs.Telling.{countable}
 module _ (q : Tables) (enough : Bool) (busy : ℕ) where
   abbrev pub why : ℕ
   why = first (table_rules q.control (fits q && enough))
+
+  -- The number found by the lengths is the first two rules'.
+  pub found : (r n : ℕ) (t : Lengths) → t ≡ lengths_of q n → enough ≡ leb q.control.tasks n
+      → r ≡ first (table_rules q.control (tables_fit q.control t)) → r ≡ why
+  unfolding lengths_fit rows_fit
+  found r n t m many e =
+      e
+      ∙ ap (λ (l : Lengths). first (table_rules q.control (tables_fit q.control l))) m
+      ∙ ap (λ (b : Bool). first (table_rules q.control (fits q && b))) (sym many)
 
   pub refused : (n : ℕ) → n ≡ why → (n ≡ 0 → ⊥) → reported.Refused n ≡ tell q enough busy
   unfolding tell report_refusal

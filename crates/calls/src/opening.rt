@@ -80,14 +80,7 @@ pub fn open_tables(
         (tables_of c lefts.old rights.old labels.old marks.old next.old)
         records tasks slots tag) }
 {
-    let t = Lengths {
-        records,
-        lefts: lefts.len(),
-        rights: rights.len(),
-        labels: labels.len(),
-        marks: marks.len(),
-        next: next.len(),
-    };
+    let t = Lengths::of(records, lefts, rights, labels, marks, next);
     let why = open_refusal(pooled, tasks, slots, t);
     if why != 0 {
         return OpenedTables {

@@ -33,14 +33,7 @@ pub fn told(
         (leb c.tasks records)
         busy }
 {
-    let t = Lengths {
-        records,
-        lefts: lefts.len(),
-        rights: rights.len(),
-        labels: labels.len(),
-        marks: marks.len(),
-        next: next.len(),
-    };
+    let t = Lengths::of(records, lefts, rights, labels, marks, next);
     let why = admission::table_refusal(c, t);
     if why != 0 {
         return Reported::Refused(why);
