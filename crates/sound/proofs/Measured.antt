@@ -1,5 +1,5 @@
 -- The test of the lengths is the document's rule on the tables.
-use mathlib.Core.{Path.{◌≡◌, refl, ap, ◌∙◌}, Bool.Bool}
+use mathlib.Core.{Path.{◌≡◌, refl, sym, ap, ◌∙◌}, Bool.Bool}
 use Prim.Native.Nat.{ℕ}
 use Rattle.model.specs.{Tables.Tables, Sound.rows_fit}
 use Rattle.sound.specs.{declared.Lengths.Lengths, Lengths.{lengths_of, Measures, lengths_fit}}
@@ -10,3 +10,7 @@ lengths_fit_lem pooled slots q n = refl
 
 pub measured : (pooled : Bool) (slots : ℕ) (t : Lengths) (q : Tables) → Measures t q → lengths_fit pooled slots t ≡ rows_fit pooled slots q
 measured pooled slots t q e = ap (lengths_fit pooled slots) e ∙ lengths_fit_lem pooled slots q t.records
+
+-- The lengths of tables with so many records are lengths of these tables.
+pub measures : (q : Tables) (n : ℕ) (t : Lengths) → t ≡ lengths_of q n → Measures t q
+measures q n t e = e ∙ ap (λ (l : Lengths). lengths_of q l.records) (sym e)
