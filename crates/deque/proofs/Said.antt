@@ -27,6 +27,10 @@ module _ (c : Control) (rs : List Record) (task : ℕ) (lefts rights labels mark
   abbrev pub fault : ℕ
   fault = admission c (lengths_fit (is_pooled c) c.slots sizes) (among_many c sizes task)
 
+  -- The number found is that of the tables as they measure.
+  pub found : (why : ℕ) (l : Lengths) → l ≡ sizes → why ≡ admission c (lengths_fit (is_pooled c) c.slots l) (among_many c l task) → why ≡ fault
+  found why l el e = e ∙ ap (λ (l : Lengths). admission c (lengths_fit (is_pooled c) c.slots l) (among_many c l task)) el
+
   pub refused : (why : ℕ) → why ≡ fault → (why ≡ 0 → ⊥) → ◌≡◌ {A = Done} (record { queue = queue; outcome = Refused why }) (act queue task Step)
   unfolding act act_on rows_fit lengths_fit
   refused why e h =
