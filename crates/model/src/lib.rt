@@ -68,14 +68,15 @@ pub enum Answer {
     NoFreeSlot,
 }
 
-/// What a start or step answers. A start that is carried out is `Moved` and running, with its first place
-/// next: 1, or 12 where it names no slot.
-#[derive(Clone, Copy)]
-pub enum Outcome {
-    /// With the document's number.
-    Refused(u32),
-    Moved(Answer),
+/// Why a call is refused: the document's number of the first rule that applies.
+#[derive(Clone, Copy, Debug, PartialEq, Eq)]
+pub struct Refusal {
+    pub number: u32,
 }
+
+/// What a start or step answers. A start that is carried out is running, with its first place next: 1, or 12 where
+/// it names no slot.
+pub type Outcome = Result<Answer, Refusal>;
 
 /// What a start or step leaves of control and its task's call, its outcome, and whether a change failed,
 /// which the task's record counts.
@@ -88,11 +89,7 @@ pub struct Transition {
 }
 
 /// What an opening answers.
-#[derive(Clone, Copy)]
-pub enum Opening {
-    Refused(u32),
-    Opened,
-}
+pub type Opening = Result<(), Refusal>;
 
 /// What the report tells.
 #[derive(Clone, Copy)]
@@ -105,11 +102,8 @@ pub struct Report {
     pub taken: u64,
 }
 
-#[derive(Clone, Copy)]
-pub enum Reported {
-    Refused(u32),
-    Told(Report),
-}
+/// The report, or why there is none.
+pub type Reported = Result<Report, Refusal>;
 
 /// One operation of a task.
 #[derive(Clone, Copy)]
