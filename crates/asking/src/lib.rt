@@ -11,7 +11,7 @@ ghost use Rattle.model.specs.{Tables.tables_of, Places.row, Refusals.step_refusa
 ghost use Rattle.asking.specs.WhyRefused.{why_not, why_unchanged, touch_refusal};
 
 use decide::{step, touched};
-use model::{Call, Control, Outcome, Transition};
+use model::{Call, Control, Transition};
 use places::{links, pool};
 use sound::{Lengths, admission};
 
@@ -40,8 +40,8 @@ fn why_not(m: Transition) -> u32
 {
     let o = m.outcome;
     match o {
-        Outcome::Refused(why) => why,
-        Outcome::Moved(_) => 0,
+        Err(refusal) => refusal.number,
+        Ok(_) => 0,
     }
 }
 

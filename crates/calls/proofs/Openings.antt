@@ -7,7 +7,7 @@ use borrow.Author.Tests.{ltb-true, leb-true, eqb-true, le-leb, eq-eqb, ne_eqb, n
 use Rattle.model.specs.{declared.Record.Record, Tables.{Tables, Queue, tables_of, opened_control, unused}, Sound.rows_fit}
 use Rattle.model.specs.{Refusals.{opening_rules, open_refusal}, Calls.{stacked, opened, open_as, OpenDone}, Lists.zeroed}
 use Rattle.model.proofs.Tests.{Rules.cleared, Truth.and-true}
-use Rattle.model.specs.declared.Opening.TheVariants as opening
+use Rattle.model.specs.Outcomes.{Opened, Refused}
 use Rattle.sound.specs.{declared.Lengths.Lengths, Lengths.{lengths_of, lengths_fit}}
 use Rattle.table.specs.{Filling.filling, Stacking.stacking}
 use Rattle.calls.specs.Opening.{opening_refusal, many_records, OpenedParts, open_tables}
@@ -57,7 +57,7 @@ module _ (pooled : Bool) (q : Tables) (records tasks slots : ℕ) where
   counted = rw (length-replicate records unused)
 
   pub refused_parts : (tag : ℕ) → (why ≡ 0 → ⊥)
-      → ◌≡◌ {A = OpenedParts} (record { tables = q; clear = 0; outcome = opening.Refused why }) (open_tables pooled q records tasks slots tag)
+      → ◌≡◌ {A = OpenedParts} (record { tables = q; clear = 0; outcome = Refused why }) (open_tables pooled q records tasks slots tag)
   unfolding open_tables open_as
   refused_parts tag h = rw (counted, ne_eqb why 0 h)
 
@@ -68,7 +68,7 @@ module _ (pooled : Bool) (q : Tables) (records tasks slots : ℕ) where
       (filling (slots / 64 + 1) 0 q.marks) (stacking pooled slots q.next)
 
   pub opened_parts : (tag : ℕ) → why ≡ 0
-      → ◌≡◌ {A = OpenedParts} (record { tables = opened_tables tag; clear = tasks; outcome = opening.Opened })
+      → ◌≡◌ {A = OpenedParts} (record { tables = opened_tables tag; clear = tasks; outcome = Opened })
       (open_tables pooled q records tasks slots tag)
   unfolding open_tables open_as opened rows_fit
   opened_parts tag h =
@@ -113,7 +113,7 @@ module _ (pooled : Bool) (q : Queue) (tasks slots tag : ℕ) where
   same_why = rw (length-replicate (length q.records) unused)
 
   abbrev done : Bool → ℕ → Queue → OpenDone
-  done b n p = cond b (record { queue = opened pooled p tasks slots tag; outcome = opening.Opened }) (record { queue = p; outcome = opening.Refused n })
+  done b n p = cond b (record { queue = opened pooled p tasks slots tag; outcome = Opened }) (record { queue = p; outcome = Refused n })
 
   abbrev parts : Bool → ℕ → OpenedParts
   parts b n = record { tables = (done b n few).queue.tables; clear = cond b tasks 0; outcome = (done b n few).outcome }

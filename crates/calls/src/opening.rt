@@ -5,7 +5,7 @@ ghost use Rattle.model.specs.Tables.{tables_of, opened_control};
 ghost use Rattle.sound.specs.Lengths.{lengths_fit};
 ghost use Rattle.calls.specs.Opening.{opening_refusal, OpenedParts, open_tables};
 
-use model::{Control, Opening};
+use model::{Control, Opening, Refusal};
 use sound::Lengths;
 use word::Anchor;
 
@@ -86,7 +86,7 @@ pub fn open_tables(
         return OpenedTables {
             control: c,
             clear: 0,
-            outcome: Opening::Refused(why),
+            outcome: Err(Refusal { number: why }),
         };
     }
     let rows = slots + 1;
@@ -99,6 +99,6 @@ pub fn open_tables(
     OpenedTables {
         control,
         clear: tasks as usize,
-        outcome: Opening::Opened,
+        outcome: Ok(()),
     }
 }

@@ -3,7 +3,7 @@ ghost use Rattle.std.specs.Prelude.{◌≡◌, leb};
 ghost use Rattle.model.specs.{Tables.tables_of, Report.tell};
 ghost use Rattle.calls.specs.Telling.{countable};
 
-use model::{Control, Report, Reported};
+use model::{Control, Refusal, Report, Reported};
 use sound::{Lengths, admission};
 use walk::Tally;
 use word::Anchor;
@@ -36,15 +36,15 @@ pub fn told(
     let t = Lengths::of(records, lefts, rights, labels, marks, next);
     let why = admission::table_refusal(c, t);
     if why != 0 {
-        return Reported::Refused(why);
+        return Err(Refusal { number: why });
     }
     let walked = walk::waiting(c, lefts, rights);
     match walked {
-        Tally::Broken => Reported::Refused(34),
+        Tally::Broken => Err(Refusal { number: 34 }),
         Tally::Labels(waiting) => {
             let anchor = Anchor::unpack(c.anchor);
             let taken = marks::taken(c.slots, marks);
-            Reported::Told(Report {
+            Ok(Report {
                 anchor,
                 busy,
                 waiting,

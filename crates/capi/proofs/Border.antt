@@ -3,11 +3,11 @@ use mathlib.Core.{Path.{◌≡◌, refl, sym, ap, subst, ◌∙◌}, Bool.{Bool,
 use Prim.Native.Nat.{ℕ, ◌≤◌, min}
 use native.Mathlib.Omega.{arith}
 use lib.{Dec.{eqb, leb}, ListN.{length, set}}
-use Rattle.model.specs.declared.{Control.Control, Outcome.Outcome, Reply.Reply, Reported.Reported, Op.Op}
+use Rattle.model.specs.Outcomes.{Opened, Outcome, Refused, Reported}
+use Rattle.model.specs.declared.{Control.Control, Reply.Reply, Op.Op}
 use Rattle.model.specs.{Tables.{Tables, Queue, tables_of, unused}, Sound.rows_fit, Refusals.open_refusal, Lists.zeroed}
 use Rattle.model.{specs.Report.{report, retry_counts, tell}, proofs.Tests.Truth.split}
 use Rattle.model.specs.Calls.{Done, OpenDone, opened as opened_queue, open_as, act, opening_code, reply_of}
-use Rattle.model.specs.declared.Opening.TheVariants as opening
 use Rattle.calls.specs.{declared.opening.OpenedTables.OpenedTables, Opening.{many_records, OpenedParts, open_tables}}
 use Rattle.calls.{specs.Telling.countable, proofs.{Openings.{clear-fits, open_parts, whole}, Counts.countable-fits}}
 use Rattle.calls.proofs.Tells.{all_looked_at, report_parts}
@@ -36,8 +36,8 @@ module _ (c : Control) (lefts rights labels marks none next : List ℕ) (n tasks
   abbrev done : Bool → ℕ → List ℕ → OpenDone
   done b why l =
       cond b
-      (record { queue = opened_queue false (lending l) tasks slots tag; outcome = opening.Opened })
-      (record { queue = lending l; outcome = opening.Refused why })
+      (record { queue = opened_queue false (lending l) tasks slots tag; outcome = Opened })
+      (record { queue = lending l; outcome = Refused why })
 
   abbrev opening_parts : Bool → ℕ → List ℕ → OpenedParts
   opening_parts b why l = record { tables = (done b why l).queue.tables; clear = cond b tasks 0; outcome = (done b why l).outcome }

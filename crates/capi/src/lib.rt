@@ -7,13 +7,14 @@ pub mod openings;
 ghost use mathlib.Core.{Path.◌≡◌, List.List};
 ghost use Rattle.std.specs.Prelude.{ℕ, ◌≤◌, length};
 ghost use Rattle.model.specs.{declared.Op.TheVariants.{Push, Pop, PushPooled, Step}, Calls.act};
-ghost use Rattle.model.specs.{declared.Reported.TheVariants.{Refused, Told}, Report.{report, retry_counts}};
+ghost use Rattle.model.specs.Outcomes.{Refused};
+ghost use Rattle.model.specs.Report.{report, retry_counts};
 ghost use Rattle.model.specs.Ends.{ends_call, is_moved};
 ghost use Rattle.layout.specs.Rows.{queue_in, records_of, uppers_of};
 ghost use Rattle.capi.specs.Replies.{report_reply_of, busy_in, counts_in, Replied, replied};
 
 use calls::report;
-use model::{Reply, Report, Reported};
+use model::{Reply, Report};
 use rows::op;
 
 /// A report in numbers.
@@ -51,7 +52,7 @@ fn refused_report(number: u32) -> ReportReply
 }
 
 fn told_report(t: Report, retries: [u64; 16]) -> ReportReply
-    ensures { result ≡ report_reply_of (Told t) retries }
+    ensures { result ≡ report_reply_of (Ok t) retries }
 {
     ReportReply {
         code: 0,
@@ -238,10 +239,10 @@ pub extern "C" fn zc_report(
     let l = look(records, k);
     let r = report::told(c, n, l.busy, lefts, rights, labels, marks, next);
     match r {
-        Reported::Refused(number) => {
-            return refused_report(number);
+        Err(refusal) => {
+            return refused_report(refusal.number);
         }
-        Reported::Told(t) => {
+        Ok(t) => {
             let retries = l.retries;
             return told_report(t, retries);
         }

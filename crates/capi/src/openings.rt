@@ -12,8 +12,8 @@ fn opening_code(o: Opening) -> u32
     ensures { result ≡ opening_code o }
 {
     match o {
-        Opening::Refused(number) => number,
-        Opening::Opened => 0,
+        Err(refusal) => refusal.number,
+        Ok(()) => 0,
     }
 }
 

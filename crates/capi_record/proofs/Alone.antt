@@ -1,7 +1,8 @@
 -- The call over rows: what its parts say comes to what it means.
 use mathlib.Core.{Path.{◌≡◌, sym, ap, ◌∙◌}, Bool.Bool, List.List}
 use Prim.Native.Nat.{ℕ}
-use Rattle.model.specs.{declared.{Control.Control, Outcome.{Outcome, TheVariants.Refused}, Reply.Reply}, Sound.rows_fit}
+use Rattle.model.specs.Outcomes.{Outcome, Refused}
+use Rattle.model.specs.{declared.{Control.Control, Reply.Reply}, Sound.rows_fit}
 use Rattle.model.specs.{Tables.{Tables, is_pooled, tables_of}, Refusals.{alone, admission}, Calls.{step_lent, reply_of}}
 use Rattle.sound.specs.{declared.Lengths.Lengths, Lengths.{lengths_of, lengths_fit}}
 use Rattle.engine.proofs.InParts.{turned_away, admitted}

@@ -13,7 +13,7 @@ ghost use Rattle.std.specs.Prelude.{◌≡◌};
 ghost use Rattle.decide.specs.Decided.{made_of, found3, found5, found7, found9, found11, found13, found14, new2};
 ghost use Rattle.decide.specs.Decided.{found16, new3, new4, new9, new10, new14, new17};
 
-use model::{Call, Control, Entry, Outcome, Transition};
+use model::{Call, Control, Entry, Transition};
 use route::next;
 use word::{Anchor, Link};
 
@@ -89,8 +89,8 @@ pub fn made(m: Transition) -> bool
 {
     let o = m.outcome;
     match o {
-        Outcome::Refused(_) => false,
-        Outcome::Moved(_) => !m.failed,
+        Err(_) => false,
+        Ok(_) => !m.failed,
     }
 }
 

@@ -7,7 +7,7 @@ ghost use Rattle.decide.specs.Ending.{refused, settled, failing, tag_has_room, m
 ghost use Rattle.decide.specs.Ending.{headed, remembered, compared, row_sound, neighbour_read, link_read, head_read};
 
 use crate::touched;
-use model::{Answer, Call, Control, Entry, Outcome, Transition};
+use model::{Answer, Call, Control, Entry, Refusal, Transition};
 use route::next;
 use word::{Anchor, Link};
 
@@ -21,14 +21,14 @@ pub fn refused(c: Control, r: Call) -> Transition
     Transition {
         control: c,
         task: r,
-        outcome: Outcome::Refused(34),
+        outcome: Err(Refusal { number: 34 }),
         failed: false,
     }
 }
 
 /// The call goes on at place n.
 fn goes(c: Control, t: Call, n: u8) -> Transition
-    ensures { result ≡ record { control = c; task = goes t n; outcome = Outcome.Moved (Answer.Running n); failed = false } }
+    ensures { result ≡ record { control = c; task = goes t n; outcome = Moved (Answer.Running n); failed = false } }
 {
     let place = n as u64;
     if n > 17 {
@@ -39,14 +39,14 @@ fn goes(c: Control, t: Call, n: u8) -> Transition
     Transition {
         control: c,
         task: gone,
-        outcome: Outcome::Moved(Answer::Running(place)),
+        outcome: Ok(Answer::Running(place)),
         failed: false,
     }
 }
 
 /// The call is answered, and its record all zero.
 fn ends(c: Control, a: Answer) -> Transition
-    ensures { result ≡ record { control = c; task = idle; outcome = Outcome.Moved a; failed = false } }
+    ensures { result ≡ record { control = c; task = idle; outcome = Moved a; failed = false } }
 {
     Transition {
         control: c,
@@ -61,7 +61,7 @@ fn ends(c: Control, a: Answer) -> Transition
             link: 0,
             finishing: 0,
         },
-        outcome: Outcome::Moved(a),
+        outcome: Ok(a),
         failed: false,
     }
 }

@@ -4,7 +4,7 @@
 ghost use Rattle.std.specs.Prelude.{◌≡◌};
 ghost use Rattle.model.specs.{Calls.reply_of, Ends.{answer_ends, ends_call, is_moved, is_running}};
 
-use model::{Answer, Outcome, Reply};
+use model::{Answer, Outcome, Refusal, Reply};
 
 fn answer_ends(a: Answer) -> bool
     ensures { result ≡ answer_ends a }
@@ -24,8 +24,8 @@ pub fn ends(o: Outcome) -> bool
     ensures { result ≡ ends_call o }
 {
     match o {
-        Outcome::Refused(_) => false,
-        Outcome::Moved(a) => answer_ends(a),
+        Err(_) => false,
+        Ok(a) => answer_ends(a),
     }
 }
 
@@ -34,8 +34,8 @@ pub fn moves(o: Outcome) -> bool
     ensures { result ≡ is_moved o }
 {
     match o {
-        Outcome::Refused(_) => false,
-        Outcome::Moved(_) => true,
+        Err(_) => false,
+        Ok(_) => true,
     }
 }
 
@@ -44,20 +44,20 @@ pub fn runs(o: Outcome) -> bool
     ensures { result ≡ is_running o }
 {
     match o {
-        Outcome::Refused(_) => false,
-        Outcome::Moved(a) => !answer_ends(a),
+        Err(_) => false,
+        Ok(a) => !answer_ends(a),
     }
 }
 
 /// The outcome of a refusal.
 pub fn refuse(why: u32) -> Outcome
-    ensures { result ≡ Outcome.Refused why }
+    ensures { result ≡ Refused why }
 {
-    Outcome::Refused(why)
+    Err(Refusal { number: why })
 }
 
 fn answer_reply(a: Answer) -> Reply
-    ensures { result ≡ reply_of (Outcome.Moved a) }
+    ensures { result ≡ reply_of (Moved a) }
 {
     match a {
         Answer::Running(place) => Reply {
@@ -93,11 +93,11 @@ pub fn reply(o: Outcome) -> Reply
     ensures { result ≡ reply_of o }
 {
     match o {
-        Outcome::Refused(number) => Reply {
-            code: number,
+        Err(refusal) => Reply {
+            code: refusal.number,
             label: 0,
             value: 0,
         },
-        Outcome::Moved(answer) => answer_reply(answer),
+        Ok(answer) => answer_reply(answer),
     }
 }

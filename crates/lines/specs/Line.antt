@@ -1,11 +1,12 @@
 -- A line of the trace, byte by byte. (Document 01: The run file and its trace.)
+use Rattle.std.specs.Prelude.{Err, Ok}
 use Rattle.std.specs.Prelude.{ℕ, zero, suc, ◌+◌, ◌/◌, ◌%◌, ◌^◌}
 use mathlib.Core.{Path.◌≡◌, Bool.cond, List.{List, [], ◌∷◌, ◌++◌}}
 use lib.{ListN.length, Seq.sets, Dec.{ltb, leb}}
-use Rattle.model.specs.declared.{Entry.Entry, Outcome.{Outcome, TheVariants.{Refused, Moved}}, Opening.Opening, Op.Op}
+use Rattle.model.specs.Outcomes.{Moved, Opened, Opening, Outcome, Refused}
+use Rattle.model.specs.declared.{Entry.Entry, Op.Op}
 use Rattle.model.specs.declared.Answer.{Answer, TheVariants.{Running, Pushed, Empty, Popped, NoFreeSlot}}
 use Rattle.model.specs.Refusals.{malformed}
-use Rattle.model.specs.declared.Opening.TheVariants as opening
 use Rattle.model.specs.declared.Op.TheVariants as op
 use Rattle.lines.specs.{Ascii.ascii, declared.Line.{Line, TheVariants.{Open, Act, File}}}
 
@@ -77,12 +78,12 @@ moved op.Step a = answer_of a
 
 -- A refusal has its number.
 unfoldable pub outcome_of : Op → Outcome → List ℕ
-outcome_of op (Refused n) = numbered no n
-outcome_of op (Moved a) = moved op a
+outcome_of op (Err refusal) = numbered no refusal.number
+outcome_of op (Ok a) = moved op a
 
 unfoldable pub opening_of : Opening → List ℕ
-opening_of (opening.Refused n) = numbered no n
-opening_of opening.Opened = ok
+opening_of (Err refusal) = numbered no refusal.number
+opening_of (Ok u) = ok
 
 -- Task, call and answer. An opening and a malformed place have no task.
 unfoldable pub told : Line → List ℕ

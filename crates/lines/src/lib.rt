@@ -91,8 +91,8 @@ fn put_outcome(out: &mut [u8], at: usize, op: Op, outcome: Outcome) -> usize
     ensures upper_bound { result ≤ at + 45 }
 {
     match outcome {
-        Outcome::Refused(n) => number::put_numbered(out, at, b"no", n as u64),
-        Outcome::Moved(a) => put_moved(out, at, op, a),
+        Err(refusal) => number::put_numbered(out, at, b"no", refusal.number as u64),
+        Ok(a) => put_moved(out, at, op, a),
     }
 }
 
@@ -102,8 +102,8 @@ fn put_opening(out: &mut [u8], at: usize, opening: Opening) -> usize
     ensures upper_bound { result ≤ at + 22 }
 {
     match opening {
-        Opening::Refused(n) => number::put_numbered(out, at, b"no", n as u64),
-        Opening::Opened => number::put_text(out, at, b"ok"),
+        Err(refusal) => number::put_numbered(out, at, b"no", refusal.number as u64),
+        Ok(()) => number::put_text(out, at, b"ok"),
     }
 }
 

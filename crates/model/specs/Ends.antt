@@ -12,14 +12,14 @@ answer_ends (Popped e) = true
 answer_ends NoFreeSlot = true
 
 abbrev pub is_moved : Outcome → Bool
-is_moved (Err n) = false
+is_moved (Err refusal) = false
 is_moved (Ok a) = true
 
 abbrev pub ends_call : Outcome → Bool
-ends_call (Err n) = false
+ends_call (Err refusal) = false
 ends_call (Ok a) = answer_ends a
 
 -- Carried out, and the call goes on.
 abbrev pub is_running : Outcome → Bool
-is_running (Err n) = false
+is_running (Err refusal) = false
 is_running (Ok a) = not (answer_ends a)

@@ -145,7 +145,7 @@ accept n e Step a l = attend n e a l.deque l.calls
 
 -- What an event at position n makes of the ledger, by its outcome.
 unfoldable pub note : ℕ → Event → Outcome → Ledger → Ledger
-note n e (Err why) l = l
+note n e (Err refusal) l = l
 note n e (Ok a) l = accept n e e.op a l
 
 -- The events from position n on, noted one after another.

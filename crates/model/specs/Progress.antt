@@ -13,7 +13,7 @@ abbrev pub took_effect_or_answered_by : Event → Op → Outcome → Bool
 took_effect_or_answered_by e (Push side slot label) o = false
 took_effect_or_answered_by e (Pop side) o = false
 took_effect_or_answered_by e (PushPooled side label) o = false
-took_effect_or_answered_by e Step (Err why) = false
+took_effect_or_answered_by e Step (Err refusal) = false
 took_effect_or_answered_by e Step (Ok a) = is_effect e a || answer_ends a
 
 abbrev pub took_effect_or_answered : Event → Bool
@@ -29,7 +29,7 @@ abbrev pub stepping : Op → Outcome → ℕ
 stepping (Push side slot label) o = 0
 stepping (Pop side) o = 0
 stepping (PushPooled side label) o = 0
-stepping Step (Err why) = 0
+stepping Step (Err refusal) = 0
 stepping Step (Ok a) = 1
 
 -- The number of accepted steps among the events.

@@ -4,7 +4,8 @@ use Prim.Native.Nat.{ℕ, ◌<◌}
 use native.Mathlib.Omega.{arith}
 use lib.Dec.{eqb}
 use borrow.Author.Tests.{lt-ltb, not-true, not-false, eqb-true}
-use Rattle.model.specs.declared.{Call.Call, Record.Record, Outcome.TheVariants.Refused, Op.TheVariants.Step}
+use Rattle.model.specs.Outcomes.{Refused}
+use Rattle.model.specs.declared.{Call.Call, Record.Record, Op.TheVariants.Step}
 use Rattle.model.specs.{Tables.{Tables, Queue, is_pooled, task_at, record_at}, Places.{Move, move, apply}, History.final}
 use Rattle.model.specs.Sound.{control_tests, control_sound, record_sound}
 use Rattle.model.specs.Places.{Touch, nothing, set_anchor, set_link, clear_mark, take_slot, set_next, set_head, word_found}

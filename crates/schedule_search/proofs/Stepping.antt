@@ -1,10 +1,12 @@
 -- A step, what is found below it, and back: the queue is as before, and the step stands in the memory.
+use Rattle.std.specs.Prelude.{Err, Ok}
 use mathlib.Core.{Path.{◌≡◌, refl, sym, ap, subst, ◌∙◌}, Bool.{Bool, true, false, ◌||◌, not, cond}}
 use mathlib.Core.List.{List, [], ◌∷◌}
 use Prim.Native.Nat.{ℕ, suc, ◌+◌, ◌-◌, ◌<◌, ◌≤◌}
 use native.Mathlib.Omega.{arith}
 use lib.{Dec.eqb, ListN.{length, get_or, set}, Seq.{sets, set_comm, set-get_or, set-set}}
-use Rattle.model.specs.declared.{Call.Call, Record.Record, Outcome.{Outcome, TheVariants.{Refused, Moved}}}
+use Rattle.model.specs.Outcomes.{Moved, Outcome, Refused}
+use Rattle.model.specs.declared.{Call.Call, Record.Record}
 use Rattle.model.specs.{Tables.{Tables, Queue, tables_of, task_at, unused}, Ends.is_moved, Places.{row, word_found}}
 use Rattle.model.{specs.{Refusals.step_sound, Calls.{Acted, finish, Done, back}}, proofs.Tests.Truth.either}
 use Rattle.engine.{specs.StepAdmitted.step_admitted, proofs.InParts.{fault, here}}
@@ -19,9 +21,9 @@ use Rattle.schedule_search.specs.Sought.{seeking, branch, choice, found_of, writ
 use Rattle.schedule_search.proofs.Seeking.{handed, none_here}
 
 stepped-is : (t : ℕ) (o : Outcome) (free : Bool) (m : Next) → stepped t o free m ≡ prefixed t (under (not (is_moved o)) free m)
-stepped-is t (Refused why) true m = refl
-stepped-is t (Refused why) false m = refl
-stepped-is t (Moved a) free m = refl
+stepped-is t (Err why) true m = refl
+stepped-is t (Err why) false m = refl
+stepped-is t (Ok a) free m = refl
 
 -- A word stored before the run of words above it, or after.
 pub sets_above : (l s : List ℕ) (i j t : ℕ) → j < i → set (sets l i s) j t ≡ sets (set l j t) i s

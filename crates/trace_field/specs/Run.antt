@@ -1,7 +1,9 @@
 -- A run of the queue, and the lines that it prints. (Document 01: The run file and its trace.)
+use Rattle.std.specs.Prelude.{Err, Ok}
 use mathlib.Core.{Bool.{Bool, true, false, not}, List.{List, [], ◌∷◌, ◌++◌, map}}
 use Rattle.std.specs.Prelude.{ℕ, ◌+◌, ◌%◌, ◌^◌, take, drop}
-use Rattle.model.specs.{declared.{Opening.{Opening, TheVariants.{Refused, Opened}}, Op.Op}, Tables.Queue, Calls.open_as}
+use Rattle.model.specs.Outcomes.{Opened, Opening, Refused}
+use Rattle.model.specs.{declared.Op.Op, Tables.Queue, Calls.open_as}
 use Rattle.model.specs.History.{Request, Event, run, final}
 use Rattle.lines.specs.Line.{line_of}
 use Rattle.lines.specs.declared.Line.TheVariants as line
@@ -44,8 +46,8 @@ operated r os = record {
 
 -- An opening. A refused one ends the run.
 abbrev pub is_opened : Opening → Bool
-is_opened (Refused n) = false
-is_opened Opened = true
+is_opened (Err refusal) = false
+is_opened (Ok u) = true
 
 unfoldable pub opening_told : Run → Bool → ℕ → ℕ → ℕ → Told
 opening_told r pooled tasks slots tag =

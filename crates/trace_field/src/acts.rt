@@ -112,8 +112,8 @@ fn is_opened(o: Opening) -> bool
     ensures { result ≡ is_opened o }
 {
     match o {
-        Opening::Refused(_) => false,
-        Opening::Opened => true,
+        Err(_) => false,
+        Ok(()) => true,
     }
 }
 

@@ -2,7 +2,8 @@
 use mathlib.Core.Path.{◌≡◌, refl, sym, ◌∙◌}
 use Rattle.capi.proofs.{Border.{few, reported}, zc_report.Statement.statement}
 use borrow.Author.Rules.{rules}
-use Rattle.model.specs.{declared.Reported.Reported, Report.{report, retry_counts}}
+use Rattle.model.specs.Outcomes.{Reported}
+use Rattle.model.specs.Report.{report, retry_counts}
 use Rattle.layout.specs.Rows.{queue_in}
 use Rattle.capi.specs.Replies.{report_reply_of}
 use Rattle.capi.proofs.zc_report.Tie as tie
@@ -29,17 +30,17 @@ module _ (t : tie.After-told-r) where
       s.args.next.now _ _ _ _ _ _ looked.before.before.control_of-c.ensures refl looked.before.to_count-k.ensures
       looked.look-l.ensures.0 (sym e ∙ t.told-r.ensures) looked.look-l.ensures.1
 
-returns : tie.Need-returns-in-Refused
+returns : tie.Need-returns-in-Err
 returns c =
     let k = c.before in
     let t = k.before in
-    c.refused_report.ensures (looked t).look-l.result.retries ∙ is t _ k.in-Refused.is
+    c.refused_report.ensures (looked t).look-l.result.retries ∙ is t _ k.in-Err.is
 
-returns-2 : tie.Need-returns-in-Told
+returns-2 : tie.Need-returns-in-Ok
 returns-2 c =
     let k = c.before.before in
     let t = k.before in
-    c.told_report.ensures ∙ is t _ k.in-Told.is
+    c.told_report.ensures ∙ is t _ k.in-Ok.is
 
 pub zc_report_spec : {M : Type 1} → statement M
 zc_report_spec =

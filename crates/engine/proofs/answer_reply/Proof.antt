@@ -1,7 +1,8 @@
 -- An answer in numbers: each arm is given that the answer is its variant.
 use mathlib.Core.Path.{sym, ap}
 use borrow.Author.Rules.{rules}
-use Rattle.model.specs.{declared.{Answer.Answer, Reply.Reply, Outcome.TheVariants.Moved}, Calls.reply_of}
+use Rattle.model.specs.Outcomes.{Moved}
+use Rattle.model.specs.{declared.{Answer.Answer, Reply.Reply}, Calls.reply_of}
 use Rattle.engine.proofs.answer_reply.Statement.{statement}
 use Rattle.engine.proofs.answer_reply.Tie as tie
 
