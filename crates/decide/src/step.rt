@@ -2,7 +2,7 @@
 ghost use mathlib.Core.{Path.◌≡◌, Bool.{false, cond}};
 ghost use Rattle.std.specs.Prelude.{◌+◌, ◌/◌, ◌^◌};
 ghost use Rattle.word.specs.Link.{pack_link};
-ghost use Rattle.model.specs.{Tables.{idle, with_seen}, Route.goes};
+ghost use Rattle.model.specs.{Tables.{idle, with_seen}, Route.goes, Outcomes.Moved};
 ghost use Rattle.decide.specs.Ending.{refused, settled, failing, tag_has_room, may_change, change_refused, anchored};
 ghost use Rattle.decide.specs.Ending.{headed, remembered, compared, row_sound, neighbour_read, link_read, head_read};
 

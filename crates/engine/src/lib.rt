@@ -2,7 +2,7 @@
 #![tactic(auto)]
 
 ghost use Rattle.std.specs.Prelude.{◌≡◌};
-ghost use Rattle.model.specs.{Calls.reply_of, Ends.{answer_ends, ends_call, is_moved, is_running}};
+ghost use Rattle.model.specs.{Outcomes.{Refused, Moved}, Calls.reply_of, Ends.{answer_ends, ends_call, is_moved, is_running}};
 
 use model::{Answer, Outcome, Refusal, Reply};
 

@@ -47,7 +47,7 @@ unfolding final
 through_unmarked q t l h low k = by_test Unmarked (at_work q t) (λ busy. go busy (act q t Step).outcome refl) (λ _. tt)
   where
     go : at_work q t ≡ true → (o : Outcome) → (act q t Step).outcome ≡ o → Unmarked (onwards t o l)
-    go busy (Err n) e = absurd (h [] t n low busy e)
+    go busy (Err refusal) e = absurd (h [] t refusal.number low busy e)
     go busy (Ok a) e = unmarked_begun t l k
 
 all_unmarked : (n : ℕ) (q : Queue) → Steady q → Unmarked (schedules q n)

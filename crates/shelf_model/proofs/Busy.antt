@@ -89,7 +89,7 @@ module _ (q : Queue) (t : ℕ) where
         }
 
         go : (o : Outcome) → (act q t Step).outcome ≡ o → took_effect_or_answered_by e Step o ≡ false → Busy (act q t Step).queue t
-        go (Err n) z f = subst (λ (x : Queue). Busy x t) (sym (act-refused q t Step n z)) b
+        go (Err refusal) z f = subst (λ (x : Queue). Busy x t) (sym (act-refused q t Step refusal.number z)) b
         go (Ok a) z f = left (ap is_running z ∙ ap not (or-false (is_effect e a) (answer_ends a) f).1)
 
     own_busy : (o : Op) → took_effect_or_answered (event_of q (record { task = t; op = o })) ≡ false → Busy (act q t o).queue t

@@ -5,8 +5,8 @@ use Rattle.model.specs.Calls.{reply_of}
 use Rattle.engine.proofs.reply.Statement.{statement}
 use Rattle.engine.proofs.reply.Tie as tie
 
-returns : tie.Need-returns-in-Refused
-returns c = sym (ap reply_of c.in-Refused.is)
+returns : tie.Need-returns-in-Err
+returns c = sym (ap reply_of c.in-Err.is)
 
 pub reply_spec : {M : Type 1} → statement M
 reply_spec = tie.close (tie.spec (λ c. search rules) (λ c. search rules) (λ _ _. tt) returns (λ c. search rules))

@@ -169,9 +169,9 @@ look_spec =
     loop-holds
     (λ c κs. c.before.before.before.loop-n.invariant.ready)
     (λ c. omega arith)
-    (λ _ _. tt)
+    (λ c κs. search rules)
     meet_requires
-    (λ _ _. tt)
+    (λ c κs. search rules)
     (λ c. search rules)
     (λ c. sized (place c.before))
     (λ c. long-now (place c.before))

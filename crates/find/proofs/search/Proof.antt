@@ -99,7 +99,7 @@ search_spec =
     look_requires
     (λ c. search rules)
     (λ c. search rules)
-    (λ _ _. tt)
+    (λ c κs. search rules)
     (λ c. search rules)
     returns
     turn_requires

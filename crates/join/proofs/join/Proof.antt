@@ -131,7 +131,7 @@ pub join_spec : {M : Type 1} → statement M
 join_spec =
     tie.close
     (tie.spec
-    (λ _ _. tt)
+    (λ c κs. search rules)
     (λ c. search rules)
     (λ c. search rules)
     (λ c. search rules)

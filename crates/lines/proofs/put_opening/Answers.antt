@@ -2,10 +2,10 @@
 use Rattle.lines.specs.Line.{opening_of}
 use Rattle.lines.proofs.put_opening.Goals as goal
 
-pub returns-in-Refused-clause-put : goal.returns-in-Refused-clause-put
+pub returns-in-Err-clause-put : goal.returns-in-Err-clause-put
 unfolding opening_of
-returns-in-Refused-clause-put c = rw c.in-Refused.is c.put_numbered.ensures.put
+returns-in-Err-clause-put c = rw c.in-Err.is c.put_numbered.ensures.put
 
-pub returns-in-Opened-clause-put : goal.returns-in-Opened-clause-put
+pub returns-in-Ok-clause-put : goal.returns-in-Ok-clause-put
 unfolding opening_of
-returns-in-Opened-clause-put c = rw c.in-Opened.is c.put_text.ensures
+returns-in-Ok-clause-put c = rw c.in-Ok.is c.put_text.ensures

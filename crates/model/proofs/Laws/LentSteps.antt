@@ -9,7 +9,7 @@ use Rattle.model.specs.{Tables.{Queue, task_at, unused}, Refusals.{Rule, alone, 
 use Rattle.model.specs.{Calls.{Acted, Done, act, finish, step, step_lent}, History.{Event, Request, final, run}}
 use Rattle.model.specs.LentSteps.{LentKnown, LentStand, Lendable, Turn, requested, final_turns, lent, request_of}
 use Rattle.model.specs.LentSteps.{run_turns, take_turn}
-use Rattle.model.proofs.Tests.Truth.{by_test, not_both, refused_by}
+use Rattle.model.proofs.Tests.Truth.{by_test, not_both, same_refusal}
 use Rattle.model.proofs.Laws.{Lengths.act_lengths, Sizes.act-tasks, LentRecord.{lent_record, with_row}}
 
 -- A task's own record, put where it lies.
@@ -63,4 +63,4 @@ lent-known q r = by_test (λ (a : Acted). a.outcome ≢ Refused 13) (eqb (step_r
         (λ t w. omega arith),
         ((λ t. absurd (not_both t refl)), ((λ t w. omega arith), ((λ t w. omega arith), ((λ t w. omega arith), tt)))),
       ),
-    ) (refused_by e))
+    ) (same_refusal e))

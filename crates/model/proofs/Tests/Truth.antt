@@ -82,5 +82,5 @@ abbrev numbered : Outcome → ℕ → ℕ
 numbered (Err refusal) n = refusal.number
 numbered (Ok a) n = n
 
-pub refused_by : {n m : ℕ} → ◌≡◌ {A = Outcome} (Refused n) (Refused m) → n ≡ m
-refused_by {n} e = ap (λ (o : Outcome). numbered o n) e
+pub same_refusal : {n m : ℕ} → ◌≡◌ {A = Outcome} (Refused n) (Refused m) → n ≡ m
+same_refusal {n} e = ap (λ (o : Outcome). numbered o n) e

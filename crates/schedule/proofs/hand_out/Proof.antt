@@ -29,7 +29,7 @@ pub hand_out_spec : {M : Type 1} → statement M
 hand_out_spec =
     tie.close
     (tie.spec
-    (λ _ _. tt)
+    (λ c κs. search rules)
     (λ c κs. search rules)
     (λ c. search rules)
     (λ c. search rules)
@@ -38,7 +38,7 @@ hand_out_spec =
     (λ c. search rules)
     (λ c. search rules)
     returns
-    (λ _ _. tt)
+    (λ c κs. search rules)
     (λ c. search rules)
     (λ c. search rules)
     (λ c. search rules)

@@ -1,4 +1,5 @@
 -- At most 48.
+use borrow.Author.Rules.{rules}
 use mathlib.Core.Path.{refl, sym}
 use borrow.Author.Tests.{le-leb, lt-leb}
 use Rattle.schedule.proofs.memory_length.Statement.{statement}
@@ -11,4 +12,4 @@ returns-2 : tie.Need-returns-else-n-le48
 returns-2 c = let w = c.before.get_or-n.ensures in rw (sym w, lt-leb _ 48 c.if-n-le48.false) refl
 
 pub memory_length_spec : {M : Type 1} → statement M
-memory_length_spec = tie.close (tie.spec (λ _ _. tt) returns returns-2)
+memory_length_spec = tie.close (tie.spec (λ c κs. search rules) returns returns-2)

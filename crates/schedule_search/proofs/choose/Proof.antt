@@ -82,13 +82,13 @@ pub choose_spec : {M : Type 1} → statement M
 choose_spec =
     tie.close
     (tie.spec
-    (λ _ _. tt)
+    (λ c κs. search rules)
     returns
     returns-2
     (λ c. search rules)
     returns-3
     (λ c. search rules)
-    (λ _ _. tt)
+    (λ c κs. search rules)
     returns-4
     returns-5
     returns-6)

@@ -1,4 +1,5 @@
 -- By the tests.
+use borrow.Author.Rules.{rules}
 use mathlib.Core.{Path.{◌≡◌, refl, sym, ap, ◌∙◌}, Bool.{Bool, true, false, ◌||◌, not}, List.List}
 use Prim.Native.Nat.{ℕ}
 use lib.{Dec.eqb, ListN.get_or}
@@ -52,4 +53,4 @@ returns-4 c q =
     c.before.if-not-a-b.false-raw (rw (ne_eqb _ 0 c.if-left-eq0.false) refl)
 
 pub ending_spec : {M : Type 1} → statement M
-ending_spec = tie.close (tie.spec returns (λ _ _. tt) (λ _ _. tt) returns-2 returns-3 returns-4)
+ending_spec = tie.close (tie.spec returns (λ c κs. search rules) (λ c κs. search rules) returns-2 returns-3 returns-4)

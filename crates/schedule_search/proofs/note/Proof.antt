@@ -11,4 +11,4 @@ returns-2 : tie.Need-returns-else-f
 returns-2 c = rw c.if-f.false refl
 
 pub note_spec : {M : Type 1} → statement M
-note_spec = tie.close (tie.spec (λ _ _. tt) (λ c. search rules) returns returns-2)
+note_spec = tie.close (tie.spec (λ c κs. search rules) (λ c. search rules) returns returns-2)

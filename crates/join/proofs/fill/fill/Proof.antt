@@ -66,5 +66,5 @@ returns c =
 
 pub fill_spec : {M : Type 1} → statement M
 fill_spec =
-    tie.close (tie.spec (λ _ _. tt) (λ _ _. tt) gather_requires gather_requires_2 (λ c κs. search rules) (λ c. search rules) link_up_requires
+    tie.close (tie.spec (λ c κs. search rules) (λ c κs. search rules) gather_requires gather_requires_2 (λ c κs. search rules) (λ c. search rules) link_up_requires
     (λ c. search rules) (λ c. search rules) (λ c. search rules) (λ c. search rules) returns)

@@ -1,4 +1,5 @@
 -- After k turns k rows are filled, and x is the slot after them.
+use borrow.Author.Rules.{rules}
 use mathlib.Core.{Path.{◌≡◌, refl, sym, ap, subst, ◌∙◌}, List.List}
 use Prim.Native.Nat.{ℕ, ◌<◌, ◌≤◌, ◌+◌, ◌-◌}
 use native.Mathlib.Omega.{arith}
@@ -69,7 +70,7 @@ gather_spec =
     decreases-loop
     loop-holds
     (λ c. omega arith)
-    (λ _ _. tt)
+    (λ c κs. search rules)
     follow_requires
     (λ c. omega arith)
     loop-again

@@ -1,4 +1,5 @@
 -- After k turns k slots are linked and marked.
+use borrow.Author.Rules.{rules}
 use mathlib.Core.{Path.{◌≡◌, refl, ap, ◌∙◌}, List.List}
 use Prim.Native.Nat.{ℕ, ◌≤◌, ◌-◌, ◌+◌}
 use native.Mathlib.Omega.{arith}
@@ -82,11 +83,11 @@ link_up_spec =
     decreases-loop
     (λ c. record { few = omega arith; left = refl; right = refl; mark = refl })
     (λ c. omega arith)
-    (λ _ _. tt)
+    (λ c κs. search rules)
     (λ c κs. omega arith)
-    (λ _ _. tt)
-    (λ _ _. tt)
-    (λ _ _. tt)
+    (λ c κs. search rules)
+    (λ c κs. search rules)
+    (λ c κs. search rules)
     (λ c. omega arith)
     loop-again
     same_length

@@ -103,13 +103,13 @@ merge_spec =
     decreases-loop
     (λ c. search rules)
     loop-holds
-    (λ _ _. tt)
-    (λ _ _. tt)
-    (λ _ _. tt)
-    (λ _ _. tt)
+    (λ c κs. search rules)
+    (λ c κs. search rules)
+    (λ c κs. search rules)
+    (λ c κs. search rules)
     next-requires
     add_k
-    (λ _ _. tt)
+    (λ c κs. search rules)
     (λ c. let l = turn c.before.before.before.before in omega (arith, l.loop-k.invariant.left))
     loop-again
     same_length

@@ -1,4 +1,5 @@
 -- Anchor, the head, and five words read.
+use borrow.Author.Rules.{rules}
 use mathlib.Core.Path.{◌∙◌, ap}
 use Prim.Native.Nat.{ℕ}
 use Rattle.model.specs.Tables.{tables_of}
@@ -29,4 +30,4 @@ returns c =
     slot.row_of-slot.ensures
 
 pub keep_spec : {M : Type 1} → statement M
-keep_spec = tie.close (tie.spec (λ _ _. tt) (λ _ _. tt) (λ _ _. tt) (λ _ _. tt) (λ _ _. tt) (λ _ _. tt) (λ _ _. tt) returns)
+keep_spec = tie.close (tie.spec (λ c κs. search rules) (λ c κs. search rules) (λ c κs. search rules) (λ c κs. search rules) (λ c κs. search rules) (λ c κs. search rules) (λ c κs. search rules) returns)
