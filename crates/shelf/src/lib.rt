@@ -18,12 +18,10 @@ use sound::Lengths;
 fn control_at(controls: &[[u64; layout::CONTROL_WORDS]], shelf: u64) -> [u64; layout::CONTROL_WORDS]
     ensures { control_of result ≡ get_or (controls_of controls.now) shelf unfilled }
 {
-    let n = shelf as usize;
-    if n < controls.len() {
-        let row = controls[n];
-        return row;
-    }
-    [0; layout::CONTROL_WORDS]
+    controls
+        .get(shelf as usize)
+        .copied()
+        .unwrap_or([0; layout::CONTROL_WORDS])
 }
 
 /// A shelf's control stored, where one is lent.
@@ -98,7 +96,7 @@ pub extern "C" fn zc_save(
         return why;
     }
     put_control(controls8, shelf, row);
-    paste::put_rows(records, records8, shelf, c.tasks);
+    paste::put(records, records8, shelf, c.tasks);
     tables::put_tables(
         c, shelf, lefts, rights, labels, marks, next, lefts8, rights8, labels8, marks8, next8,
     );
@@ -163,7 +161,7 @@ pub extern "C" fn zc_return(
         return why;
     }
     *control = row;
-    paste::take_rows(records8, records, shelf, c.tasks);
+    paste::take(records8, records, shelf, c.tasks);
     tables::take_tables(
         c, shelf, lefts, rights, labels, marks, next, lefts8, rights8, labels8, marks8, next8,
     );
