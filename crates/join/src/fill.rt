@@ -13,11 +13,9 @@ fn gather(n: u64, end: u64, links: &[u64], out: &mut [u64])
     requires { InRows links.now end n }
     ensures { out.new ≡ filled (walked_to links.now end) n out.old }
 {
-    let mut k: u64 = 0;
     let mut x = end;
-    while k < n {
-        k += 1;
-        table::put_word(out, k, x);
+    for k in 0..n {
+        table::put_word(out, k + 1, x);
         x = walk::follow(links, x);
     }
 }
@@ -82,16 +80,13 @@ fn merge(
         (rows_down (label_via labels2.now slots2.now) m)))
         (n + m) labels.old }
 {
-    let all = n + m;
     let mut first = n;
     let mut second = m;
-    let mut k: u64 = 0;
-    while k < all {
+    for k in 0..n + m {
         let x = table::label_at(labels1, table::word_at(slots1, first));
         let y = table::label_at(labels2, table::word_at(slots2, second));
         let t = next(first, second, x, y);
-        k += 1;
-        table::put_label(labels, k, t.label);
+        table::put_label(labels, k + 1, t.label);
         first = t.first;
         second = t.second;
     }
@@ -120,15 +115,11 @@ fn link_up(n: u64, lefts: &mut [u64], rights: &mut [u64], marks: &mut [u64])
     ensures rights_after { rights.new ≡ filled (right_to n) n rights.old }
     ensures marks_after { marks.new ≡ marked_to n marks.old }
 {
-    let mut k: u64 = 0;
-    while k < n {
+    for k in 0..n {
         let x = k + 1;
-        let left = link_word(0, k);
-        let right = right_word(n, x);
-        table::put_word(lefts, x, left);
-        table::put_word(rights, x, right);
+        table::put_word(lefts, x, link_word(0, k));
+        table::put_word(rights, x, right_word(n, x));
         table::set_mark(marks, x);
-        k = x;
     }
 }
 
