@@ -31,7 +31,7 @@ fn run_reply(o: Outcome, steps: u64) -> RunReply
         code: r.code,
         label: r.label,
         value: r.value,
-        steps: steps,
+        steps,
     }
 }
 
@@ -110,8 +110,7 @@ pub extern "C" fn zc_run(
     if most == 0 {
         return run_of_none(control, records, task, lefts, rights, labels, marks, next);
     }
-    let mut steps: u64 = 0;
-    while steps < most {
+    for steps in 0..most {
         let o = rows::step(control, records, task, lefts, rights, labels, marks, next);
         if !engine::runs(o) {
             if engine::moves(o) {
@@ -122,7 +121,6 @@ pub extern "C" fn zc_run(
             }
             return resting(records, task, steps);
         }
-        steps += 1;
     }
-    resting(records, task, steps)
+    resting(records, task, most)
 }
