@@ -4,7 +4,7 @@ ghost use Rattle.std.specs.Prelude.{◌+◌, ◌/◌, ◌≤◌};
 ghost use Rattle.model.specs.Tables.{is_pooled};
 ghost use Rattle.shelf.specs.Pasting.{put_on, put_back};
 
-use crate::paste;
+use crate::paste::{MOST_ROWS, put, take};
 use model::Control;
 
 /// How many entries of the next table count: all in a pooled queue, none in a named one.
@@ -38,11 +38,11 @@ pub fn put_tables(
     ensures next8_after { next8.new ≡ put_on shelf (cond (is_pooled c) (c.slots + 1) 0) next.now next8.old }
 {
     let rows = c.slots + 1;
-    paste::put(lefts, lefts8, shelf, rows);
-    paste::put(rights, rights8, shelf, rows);
-    paste::put(labels, labels8, shelf, rows);
-    paste::put(marks, marks8, shelf, c.slots / 64 + 1);
-    paste::put(next, next8, shelf, next_rows(c));
+    put(lefts, lefts8, &mut [0; MOST_ROWS], shelf, rows);
+    put(rights, rights8, &mut [0; MOST_ROWS], shelf, rows);
+    put(labels, labels8, &mut [0; MOST_ROWS], shelf, rows);
+    put(marks, marks8, &mut [0; MOST_ROWS], shelf, c.slots / 64 + 1);
+    put(next, next8, &mut [0; MOST_ROWS], shelf, next_rows(c));
 }
 
 /// The tables of the queue on a shelf, with this control, put back.
@@ -68,9 +68,9 @@ pub fn take_tables(
     ensures next_after { next.new ≡ put_back shelf (cond (is_pooled c) (c.slots + 1) 0) next8.now next.old }
 {
     let rows = c.slots + 1;
-    paste::take(lefts8, lefts, shelf, rows);
-    paste::take(rights8, rights, shelf, rows);
-    paste::take(labels8, labels, shelf, rows);
-    paste::take(marks8, marks, shelf, c.slots / 64 + 1);
-    paste::take(next8, next, shelf, next_rows(c));
+    take(lefts8, lefts, &mut [0; MOST_ROWS], shelf, rows);
+    take(rights8, rights, &mut [0; MOST_ROWS], shelf, rows);
+    take(labels8, labels, &mut [0; MOST_ROWS], shelf, rows);
+    take(marks8, marks, &mut [0; MOST_ROWS], shelf, c.slots / 64 + 1);
+    take(next8, next, &mut [0; MOST_ROWS], shelf, next_rows(c));
 }

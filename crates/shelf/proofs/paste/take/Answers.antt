@@ -6,7 +6,7 @@ use Rattle.shelf.proofs.paste.take.Goals as goal
 pub returns-in-Some : goal.returns-in-Some
 returns-in-Some g c =
     let n : c.in-Some.start + c.args.k - c.in-Some.start ≡ c.args.k = omega arith in
-    back_by _ _ _ _ _ _ c.in-Some.ensures.value c.in-Some.ensures.lies.0 (rw n at c.copy_from_slice.ensures.after)
+    back_by _ _ _ _ _ _ c.in-Some.ensures.value c.in-Some.ensures.lies.0 (rw n at c.copy.ensures)
 
 pub returns-in_default : goal.returns-in_default
 returns-in_default g c = unback _ _ _ _ c.in_default.ensures.value
