@@ -5,21 +5,23 @@ ghost use lib.{Dec.eqb, ListN.get_or};
 ghost use Rattle.model.specs.{Tables.{queue_of, unused}, Lists.count};
 ghost use Rattle.layout.specs.Rows.{records_of};
 ghost use Rattle.join_model.specs.Join.{at_rest, blank, fresh};
+ghost use Rattle.join.specs.Numbers.{AreNumbers};
 
 use model::Control;
+use std::ops::BitOr;
 use word::Anchor;
 
 /// The first n entries are zero, and beyond the end of a table all is zero. All are looked at, several at a time.
-fn blank<T: Copy + Into<u64>>(t: &[T], n: u64) -> bool
-    ensures { (number : T → ℕ) → ((x : T) (y : ℕ) → T.converts x y → y ≡ number x) → result ≡ blank n (map number t.now) }
+fn blank<T: Copy + Default + BitOr<Output = T> + Into<u64>>(t: &[T], n: u64) -> bool
+    requires { (x y : T) → T.can_bitor x y }
+    ensures { (number : T → ℕ) → AreNumbers T.is_default T.bitor_gives T.converts number → result ≡ blank n (map number t.now) }
 {
     let k = t.len().min(n as usize);
-    let mut any: u64 = 0;
+    let mut any = T::default();
     for x in &t[..k] {
-        let word: u64 = (*x).into();
-        any |= word;
+        any = any | *x;
     }
-    any == 0
+    any.into() == 0
 }
 
 /// None of the first n tasks is busy.

@@ -1,10 +1,15 @@
 -- The tests as they stand.
 use mathlib.Core.{Bool.not, List.{[], ◌∷◌}}
-use Rattle.std.proofs.Common.{◌∙◌, ◌+◌, ◌/◌}
+use Rattle.std.proofs.Common.{◌≡◌, ℕ, bit_or, ◌∙◌, ◌+◌, ◌/◌}
 use Rattle.model.specs.{Tables.is_pooled, Sides.is_empty, Lists.every}
 use Rattle.join_model.specs.Join.{fresh}
+use Rattle.join.specs.Numbers.{AreNumbers}
 use Rattle.join.proofs.Tested.{as_numbers, seven}
 use Rattle.join.proofs.rest.is_fresh.Goals as goal
+
+-- Words and labels are numbers already.
+abbrev plain : AreNumbers (λ (x : ℕ). x ≡ 0) (λ (x y r : ℕ). r ≡ bit_or x y) (λ (x n : ℕ). n ≡ x) (λ (x : ℕ). x)
+plain = record { zero = λ x e. e; either = λ x y r e. e; whole = λ x n e. e }
 
 pub returns : goal.returns
 unfolding fresh
@@ -16,8 +21,8 @@ returns c next =
     (not (is_pooled a.c)
     ∷ is_empty (c.unpack-a.ensures i)
     ∷ c.at_rest-rest.ensures a.lefts.now a.rights.now a.labels.now a.marks.now next i
-    ∷ as_numbers _ (a.c.slots + 1) a.lefts.now (c.blank-left.ensures (λ x. x) (λ x y e. e)) i
-    ∷ as_numbers _ (a.c.slots + 1) a.rights.now (c.blank-right.ensures (λ x. x) (λ x y e. e)) i
-    ∷ as_numbers _ (a.c.slots + 1) a.labels.now (c.blank-label.ensures (λ x. x) (λ x y e. e)) i
-    ∷ as_numbers _ (a.c.slots / 64 + 1) a.marks.now (c.blank-mark.ensures (λ x. x) (λ x y e. e)) i
+    ∷ as_numbers _ (a.c.slots + 1) a.lefts.now (c.blank-left.ensures (λ x. x) plain) i
+    ∷ as_numbers _ (a.c.slots + 1) a.rights.now (c.blank-right.ensures (λ x. x) plain) i
+    ∷ as_numbers _ (a.c.slots + 1) a.labels.now (c.blank-label.ensures (λ x. x) plain) i
+    ∷ as_numbers _ (a.c.slots / 64 + 1) a.marks.now (c.blank-mark.ensures (λ x. x) plain) i
     ∷ []))
