@@ -18,6 +18,7 @@ use word::Anchor;
 const LAST_TAG: u64 = 4294967262;
 
 /// Whether tables of these lengths have rows 0 to slots, and a record for each task.
+#[tactic(auto, unfolding(crate::specs::Stages::lengths_fit))]
 fn lengths_fit(c: Control, t: Lengths) -> bool
     ensures { result ≡ lengths_fit c t }
 {
@@ -26,16 +27,11 @@ fn lengths_fit(c: Control, t: Lengths) -> bool
 }
 
 /// 34 for the three controls and Anchors, and 12.
+#[tactic(auto, unfolding(crate::specs::Stages::tests_refusal))]
 fn tests_refusal(first: bool, second: bool, third: bool, fits: bool) -> u32
     ensures { result ≡ tests_refusal first second third fits }
 {
-    if !first {
-        return 34;
-    }
-    if !second {
-        return 34;
-    }
-    if !third {
+    if !(first & second & third) {
         return 34;
     }
     if !fits {
@@ -45,6 +41,7 @@ fn tests_refusal(first: bool, second: bool, third: bool, fits: bool) -> u32
 }
 
 /// Whether one of n pushes would find the Anchor tag too high, the first of them finding this one.
+#[tactic(auto, unfolding(join_model::specs::Closed::late_for))]
 fn late(tag: u64, n: u64) -> bool
     requires { n ≤ 1023 }
     ensures { result ≡ late_for tag n }
@@ -62,6 +59,7 @@ fn late(tag: u64, n: u64) -> bool
 }
 
 /// 47, 48 and 33.
+#[tactic(auto, unfolding(crate::specs::Stages::later_refusal))]
 fn later_refusal(rest: bool, slots: u64, tag: u64, first: u64, second: u64) -> u32
     requires { slots ≤ 1023 }
     ensures { result ≡ later_refusal rest (ltb slots (first + second)) (late_for tag (first + second)) }

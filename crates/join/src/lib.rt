@@ -17,6 +17,7 @@ mod fill;
 mod rest;
 
 /// Control after n pushes.
+#[tactic(auto, unfolding(crate::specs::Anchored::anchored))]
 fn anchored(c: Control, n: u64) -> Control
     requires { (1 ≤ n) × ((n ≤ 1023) × ((anchor_of c.anchor).tag ≤ 4294967264)) }
     ensures { result ≡ anchored c n }
