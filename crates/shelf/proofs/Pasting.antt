@@ -68,13 +68,14 @@ module _ {A : Type 0} (n k : ℕ) (from to : List A) (start : ℕ) (put : List A
       rw (← e) (put_mid-paste start (start + k - start) to put (take k from) k p (omega arith) (omega arith)
       ∙ ap (λ (xs : List A). (take start to ++ xs) ++ drop (start + k) to) (take-take k k from (omega arith)))
 
-  pub back_by : Some start ≡ on_shelf n k (length from) (length to) → start + k ≤ length from → put ≡ take k (drop start from)
+  pub back_by : Some start ≡ on_shelf n k (length from) (length to) → start + k ≤ length from → put ≡ take (start + k - start) (drop start from)
       → put_mid 0 k to put ≡ put_back n k from to
   unfolding put_back pasted
   back_by e h p =
       let d = length-drop start from in
       let l = length-take-le k (drop start from) (omega arith) in
-      rw (← e) (put_mid-paste 0 k to put (take k (drop start from)) k p (omega arith) (omega arith)
+      let n : start + k - start ≡ k = omega arith in
+      rw (← e) (put_mid-paste 0 k to put (take k (drop start from)) k (p ∙ ap (λ (j : ℕ). take j (drop start from)) n) (omega arith) (omega arith)
       ∙ ap (λ (xs : List A). xs ++ drop (0 + k) to) (take-take k k (drop start from) (omega arith)))
 
 module _ {A : Type 0} (n k : ℕ) (from to : List A) where
