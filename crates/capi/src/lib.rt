@@ -227,8 +227,7 @@ pub extern "C" fn zc_report(
         lefts.now rights.now labels.now marks.now next.now in
         result ≡ report_reply_of (report q) (retry_counts q) }
 {
-    let row = *control;
-    let c = layout::control_of(row);
+    let c = layout::control_of(*control);
     let n = records.len();
     let k = report::to_count(c, n);
     let l = look(records, k);
@@ -238,8 +237,7 @@ pub extern "C" fn zc_report(
             return refused_report(number);
         }
         Reported::Told(t) => {
-            let retries = l.retries;
-            return told_report(t, retries);
+            return told_report(t, l.retries);
         }
     }
 }

@@ -59,8 +59,7 @@ fn run_of_none(
         lefts.now rights.now labels.now marks.now next.now)
         task in result ≡ run_reply_of d.outcome d.steps }
 {
-    let words = *control;
-    let c = layout::control_of(words);
+    let c = layout::control_of(*control);
     let r = layout::call_at(records, task);
     let why = asking::refusal(
         c,

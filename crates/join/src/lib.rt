@@ -120,12 +120,9 @@ pub extern "C" fn zc_join(
         (queue_in third.old records.old lefts.old rights.old labels.old marks.old next))
         (set (uppers_of records.old) 0 0) (uppers_of records.old) }
 {
-    let row1 = *first;
-    let row2 = *second;
-    let row = *third;
-    let a = layout::control_of(row1);
-    let b = layout::control_of(row2);
-    let c = layout::control_of(row);
+    let a = layout::control_of(*first);
+    let b = layout::control_of(*second);
+    let c = layout::control_of(*third);
     match join(
         a, b, c, records1, records2, records, lefts1, rights1, labels1, lefts2, rights2, labels2,
         lefts, rights, labels, marks,

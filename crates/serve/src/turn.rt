@@ -1,5 +1,5 @@
 //! The opening and the operations, each by the exported call that carries it out.
-ghost use Rattle.std.specs.Prelude.{◌≡◌, ◌≤◌};
+ghost use Rattle.std.specs.Prelude.{◌≡◌};
 ghost use Rattle.model.specs.Calls.{open_as, act};
 ghost use Rattle.layout.specs.Rows.{queue_in, uppers_of, writes_row};
 ghost use Rattle.capi.specs.Replies.{Coded, coded, Replied, replied};
