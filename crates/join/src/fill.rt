@@ -35,7 +35,7 @@ fn next(first: u64, second: u64, x: u32, y: u32) -> Going
     ensures by_index { (f g : ℕ → ℕ) → f first ≡ x → g second ≡ y
         → merge (rows_down f first) (rows_down g second) ≡ result.label ∷ merge (rows_down f result.first) (rows_down g result.second) }
 {
-    if (second == 0) | ((first != 0) & (x <= y)) {
+    if second == 0 || (first != 0 && x <= y) {
         return Going {
             label: x,
             first: first - 1,
