@@ -203,15 +203,11 @@ fn look(records: &[[u64; layout::RECORD_WORDS]], n: usize) -> Looked
     requires { (n ≤ length records.now) × (n ≤ 16) }
     ensures { (result.busy ≡ busy_in n (records_of records.now)) × (result.retries ≡ counts_in n (records_of records.now)) }
 {
-    let mut busy: u64 = 0;
-    let mut retries: [u64; 16] = [0; 16];
-    let mut i: usize = 0;
-    while i < n {
-        let row = records[i];
-        let r = layout::call_of(row);
-        busy += (r.place != 0) as u64;
-        retries[i] = layout::retries_of(row);
-        i += 1;
+    let mut busy = 0;
+    let mut retries = [0; 16];
+    for (i, row) in records[..n].iter().enumerate() {
+        busy += u64::from(layout::call_of(*row).place != 0);
+        retries[i] = layout::retries_of(*row);
     }
     Looked { busy, retries }
 }
@@ -232,8 +228,7 @@ pub extern "C" fn zc_report(
         lefts.now rights.now labels.now marks.now next.now in
         result ≡ report_reply_of (report q) (retry_counts q) }
 {
-    let row = *control;
-    let c = layout::control_of(row);
+    let c = layout::control_of(*control);
     let n = records.len();
     let k = report::to_count(c, n);
     let l = look(records, k);
@@ -242,9 +237,8 @@ pub extern "C" fn zc_report(
         Err(refusal) => {
             return refused_report(refusal.number);
         }
-        Ok(t) => {
-            let retries = l.retries;
-            return told_report(t, retries);
+        Reported::Ok(t) => {
+            return told_report(t, l.retries);
         }
     }
 }

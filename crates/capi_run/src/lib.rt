@@ -32,7 +32,7 @@ fn run_reply(o: Outcome, steps: u64) -> RunReply
         code: r.code,
         label: r.label,
         value: r.value,
-        steps: steps,
+        steps,
     }
 }
 
@@ -60,8 +60,7 @@ fn run_of_none(
         lefts.now rights.now labels.now marks.now next.now)
         task in result ≡ run_reply_of d.outcome d.steps }
 {
-    let words = *control;
-    let c = layout::control_of(words);
+    let c = layout::control_of(*control);
     let r = layout::call_at(records, task);
     let why = asking::refusal(
         c,
@@ -111,8 +110,7 @@ pub extern "C" fn zc_run(
     if most == 0 {
         return run_of_none(control, records, task, lefts, rights, labels, marks, next);
     }
-    let mut steps: u64 = 0;
-    while steps < most {
+    for steps in 0..most {
         let o = rows::step(control, records, task, lefts, rights, labels, marks, next);
         if !engine::runs(o) {
             if engine::moves(o) {
@@ -123,7 +121,6 @@ pub extern "C" fn zc_run(
             }
             return resting(records, task, steps);
         }
-        steps += 1;
     }
-    resting(records, task, steps)
+    resting(records, task, most)
 }
