@@ -1,7 +1,7 @@
 -- The number of a field is its tag.
 use mathlib.Core.{Path.{◌≡◌, refl, sym, subst}, Bool.{Bool, true, false}, List.List}
 use Prim.Native.Nat.{ℕ, ◌+◌}
-use lib.{Dec.{eqb, leb, ltb}, ListN.{drop, get_or, length}}
+use lib.{Dec.{eqb}, ListN.{drop, get_or}}
 use borrow.Author.Tests.{eqb-true}
 use Rattle.model.proofs.Tests.Truth.{not_both, split}
 use Rattle.std.specs.Prelude.{Result, Ok}

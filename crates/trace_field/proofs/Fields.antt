@@ -1,5 +1,5 @@
 -- A field at a position: its bytes are there.
-use Rattle.std.proofs.Common.{ℕ, suc, ◌+◌, ◌-◌, ◌<◌, ◌≤◌, [], arith, eqb-true, leb-true, add-zero}
+use Rattle.std.proofs.Common.{ℕ, suc, ◌+◌, ◌≤◌, [], arith, eqb-true, leb-true, add-zero}
 use mathlib.Core.{Path.{◌≡◌, refl, sym, ap, ◌∙◌, subst}, Bool.{Bool, true, false, ◌||◌}, List.List}
 use lib.{Dec.{leb, eqb}, ListN.{length, drop, get_or}}
 use Rattle.runfile.{specs.Field.{two_at, formed, content_of, field_of, taken}, proofs.Prefix.formed-put}

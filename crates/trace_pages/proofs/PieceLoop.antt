@@ -1,9 +1,8 @@
 -- A page that took bytes went on.
 use Prim.Native.Nat.{ℕ, ◌<◌, ◌≤◌}
-use mathlib.Core.{Path.{◌≡◌, ap, ◌∙◌}, List.List, Bool.{Bool, true, false, not, ◌||◌}}
+use mathlib.Core.{Path.{◌≡◌, ap, ◌∙◌}, List.List}
 use native.Mathlib.Omega.{arith}
-use lib.{Dec.eqb, ListN.length}
-use borrow.Author.Tests.{eqb-true, eqb-false}
+use lib.{ListN.length}
 use Rattle.trace_field.specs.Page.{Page}
 use Rattle.trace_replay.{specs.Pieces.next_page, proofs.PageEnds.next-onward}
 

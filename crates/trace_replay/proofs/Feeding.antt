@@ -4,9 +4,9 @@ use mathlib.Core.{Path.{◌≡◌, refl, sym, ap, ◌∙◌}, Bool.{Bool, true, 
 use native.Mathlib.Omega.{arith}
 use lib.{ListN.{length, get_or, drop, length-drop}, Dec.leb, Seq.{take-append-le, drop-append-le}}
 use borrow.Author.Tests.{leb-true, leb-false}
-use Rattle.std.specs.Prelude.{Result, Ok, Err}
+use Rattle.std.specs.Prelude.{Result, Err}
 use Rattle.runfile.specs.Field.{two_at, longest_field, content_of, taken, field_of}
-use Rattle.runfile.specs.declared.{Field.{Field, TheVariants.{Open, Each}}, Found.Found, NoField.{NoField, TheVariants.{Malformed, Cut, End}}}
+use Rattle.runfile.specs.declared.{Field.{Field, TheVariants.{Open, Each}}, Found.Found, NoField.{NoField, TheVariants.{Malformed}}}
 use Rattle.runfile.proofs.Prefix.{Seen, seen, ended, cut, wrong, whole, same-wrong, same_whole}
 use Rattle.trace_field.specs.{Run.{Run, Told, malformed, field_told, carried}, Page.BytesThere}
 use Rattle.trace_field.proofs.{Pages.{cond-true, cond-false}, Fields.content_there}

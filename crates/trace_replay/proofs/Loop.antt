@@ -6,8 +6,7 @@ use lib.{Dec.{leb, eqb}, ListN.{length, drop, length-drop}}
 use borrow.Author.Tests.{eqb-false, eq-eqb, ne_eqb}
 use Rattle.trace_field.specs.Page.{Page, written, carries, moved, field_room, takes}
 use Rattle.trace_field.proofs.{Pages.{cond-true, cond-false}, Fields.takes_none}
-use Rattle.std.specs.Prelude.{Result}
-use Rattle.runfile.specs.{Field.{field_of, taken}, declared.{Found.Found, NoField.NoField}}
+use Rattle.runfile.specs.{Field.{field_of, taken}}
 use Rattle.trace_replay.specs.Feed.{feed_page_in, feed_page}
 use Rattle.trace_replay.proofs.Feeding.{size_at, Next, waits, breaks, moves, next_of}
 

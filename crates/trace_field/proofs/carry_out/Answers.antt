@@ -1,5 +1,5 @@
 -- Each field is the call that carries it out.
-use Rattle.std.proofs.Common.{◌≡◌, ◌+◌, ◌-◌, ◌≤◌, length, take, drop, ℕ, ap, arith}
+use Rattle.std.proofs.Common.{◌≡◌, ◌+◌, ◌-◌, take, drop, ℕ, ap, arith}
 use Rattle.trace_field.specs.{Run.field_told, Page.field_uppers}
 use Rattle.trace_field.proofs.carry_out.Goals as goal
 

@@ -1,5 +1,5 @@
 -- What was found is carried out, and the position moves behind it.
-use Rattle.std.proofs.Common.{◌≡◌, List, ℕ, length, drop, refl, sym, ap, subst, ◌∙◌, Ok, Err, IfOk, Result}
+use Rattle.std.proofs.Common.{length, refl, sym, ap, subst, ◌∙◌, Err, IfOk, Result}
 use Rattle.runfile.specs.Field.{field_of}
 use Rattle.runfile.specs.declared.{Found.Found, NoField.{NoField, TheVariants.{Cut, End}}}
 use Rattle.trace_field.specs.{Run.carried, Page.BytesThere}

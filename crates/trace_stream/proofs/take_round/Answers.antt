@@ -1,5 +1,5 @@
 -- What was left stands before what was read, and all of it is taken, or the end of the input.
-use Rattle.std.proofs.Common.{◌≡◌, ◌-◌, ◌<◌, ◌≤◌, ℕ, length, sym, ◌∙◌, arith}
+use Rattle.std.proofs.Common.{◌≡◌, ◌-◌, ◌<◌, ◌≤◌, length, sym, ◌∙◌, arith}
 use lib.{ListN.take, Seq.{slice, length-slice}}
 use Rattle.trace_stream.specs.Round.{ended}
 use Rattle.trace_stream.proofs.Reading.{end_round, piece_round, on_ok}

@@ -1,5 +1,5 @@
 -- Each record is that of its row.
-use Rattle.std.proofs.Common.{[], ◌<◌, length, sym, arith, rules}
+use Rattle.std.proofs.Common.{[], sym, rules}
 use Rattle.model.specs.Tables.{unused}
 use Rattle.executive.proofs.Pair.{records_at}
 use Rattle.executive.proofs.held.records_of.Goals as goal

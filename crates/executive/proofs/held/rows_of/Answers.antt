@@ -1,5 +1,5 @@
 -- Each row is that of its record.
-use Rattle.std.proofs.Common.{[], ◌<◌, length, arith, rules}
+use Rattle.std.proofs.Common.{[], rules}
 use Rattle.model.specs.Tables.{unused}
 use Rattle.executive.proofs.Pair.{records_at}
 use Rattle.executive.proofs.held.rows_of.Goals as goal

@@ -1,5 +1,5 @@
 -- What is left of the list leads from here to where the whole list leads from the start.
-use Rattle.std.proofs.Common.{◌≡◌, ◌+◌, ◌-◌, ◌*◌, ◌<◌, ◌≤◌, length, ◌∙◌, arith}
+use Rattle.std.proofs.Common.{◌<◌, ◌≤◌, length, ◌∙◌, arith}
 use Rattle.trace_field.proofs.Pages.{each_end, each_more}
 use Rattle.trace_field.proofs.acts.each.Goals as goal
 
