@@ -24,20 +24,38 @@ on_ok (Ok x) e h = h
 on_ok (Err x) e h = never e
 
 -- What was left stands before what was read: of b the bytes of the input that were left, and `full` with those that were read.
-module _ (b input : List ℕ) (full : ℕ) (e : take (length b) input ≡ b) where
-  all_read : length b ≤ full → b ++ slice (length b) full input ≡ take full input
-  all_read h =
-      ap (λ (l : List ℕ). l ++ slice (length b) full input) (sym e ∙ sym (take-take (length b) full input h))
-      ∙ take-append-drop (length b) (take full input)
+all_read : (b input : List ℕ) (full : ℕ) → take (length b) input ≡ b → length b ≤ full → b ++ slice (length b) full input ≡ take full input
+all_read b input full e h =
+    ap (λ (l : List ℕ). l ++ slice (length b) full input) (sym e ∙ sym (take-take (length b) full input h))
+    ∙ take-append-drop (length b) (take full input)
 
-  pub piece_round : (p x : Page) → length b < full → full ≤ length input → x ≡ (pages_of (take full input) (from_start p)).page
-      → x ≡ round_page b (slice (length b) full input) p
+-- A piece taken: the bytes of `old` from `at` to `have` were left, and x is the page after those and what was read.
+module _ (old input : List ℕ) (at have full : ℕ) (fits : have ≤ length old) (front : take (have - at) input ≡ slice at have old)
+    (order : have - at < full) (within : full ≤ length input)
+    (p x : Page) (taken : x ≡ (pages_of (take full input) (from_start p)).page) where
+  abbrev b : List ℕ
+  b = slice at have old
+
+  as_many : length b ≡ have - at
+  as_many = length-slice at have old fits
+
+  more : length b < full
+  more = let n = as_many in omega (arith, n, order)
+
+  page : x ≡ round_page b (slice (length b) full input) p
   unfolding round_page
-  piece_round p x more within h =
+  page =
       let c = slice (length b) full input in
-      let some : 0 < length c = omega (arith, length-slice (length b) full input within, more) in
-      h ∙ ap (λ (l : List ℕ). (pages_of l (from_start p)).page) (sym (all_read (omega arith)))
+      let m = more in
+      let some : 0 < length c = omega (arith, length-slice (length b) full input within, m) in
+      taken ∙ ap (λ (l : List ℕ). (pages_of l (from_start p)).page) (sym (all_read b input full (rw as_many front) (omega (arith, m))))
       ∙ sym (cond-false (leb (length c) 0) _ _ (lt-leb _ _ some))
+
+  pub piece_ends : x.run.over ≡ true → Ended b p x
+  piece_ends over = ended (slice (length b) full input) page (λ some. over)
+
+  pub piece_goes : x.run.over ≡ false → Goes b input p x full
+  piece_goes on = record { more = more; within = within; page = page; on = on }
 
 pub end_round : (b : List ℕ) (left : ℕ) (p x : Page) → left ≡ length b → x ≡ last_page left p → Ended b p x
 unfolding round_page
