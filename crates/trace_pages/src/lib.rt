@@ -80,6 +80,8 @@ pub fn take_piece<W: Write>(
         lefts.new rights.new labels.new marks.new next.new) }
 {
     s.at = 0;
+    // The loop of `trace_replay::feed`, over pages: one function with a closure for both is no plainer, since it would be lent the six tables
+    // and the buffer only to hand them to the closure.
     while !s.over {
         let at = s.at;
         take_page(
