@@ -1,5 +1,6 @@
 -- Bytes copied to the front of their buffer stand there.
-use Rattle.std.proofs.Common.{◌≡◌, ℕ, ◌+◌, ◌-◌, ◌<◌, ◌≤◌, Bool, true, false, List, length, take, drop, min, refl, sym, ap, ◌∙◌, arith, length-drop, length-take-le, leb-true}
+use Rattle.std.proofs.Common.{◌≡◌, ℕ, ◌+◌, ◌-◌, ◌<◌, ◌≤◌, Bool, true, false, List, length}
+use Rattle.std.proofs.Common.{take, drop, min, refl, sym, ap, ◌∙◌, arith, length-drop, length-take-le, leb-true}
 use native.Mathlib.Nat.{zero-add}
 use lib.{Dec.leb, Seq.{slice, slice_empty, take-paste}}
 use borrow.Author.Tests.{leb-false}
