@@ -237,7 +237,7 @@ pub extern "C" fn zc_report(
         Err(refusal) => {
             return refused_report(refusal.number);
         }
-        Reported::Ok(t) => {
+        Ok(t) => {
             return told_report(t, l.retries);
         }
     }
