@@ -1,5 +1,6 @@
 -- A queue that is held by value.
-use Rattle.model.specs.{declared.Outcome.Outcome, Tables.{Queue, queue_of}, Calls.Done}
+use Rattle.model.specs.Outcomes.{Outcome}
+use Rattle.model.specs.{Tables.{Queue, queue_of}, Calls.Done}
 use Rattle.executive.specs.declared.held.Held.{Held}
 
 abbrev pub queue_in : Held → Queue
