@@ -31,11 +31,6 @@ hex_four n = glyph (n / 2 ^ 12 % 16) ∷ glyph (n / 2 ^ 8 % 16) ∷ glyph (n / 2
 unfoldable pub hex : ℕ → List ℕ
 hex w = hex_four (w / 2 ^ 48) ++ hex_four (w / 2 ^ 32) ++ hex_four (w / 2 ^ 16) ++ hex_four w
 
--- The n low bytes of a word, the lowest first.
-unfoldable pub bytes_of : ℕ → ℕ → List ℕ
-bytes_of zero g = []
-bytes_of (suc n) g = g % 256 ∷ bytes_of n (g / 256)
-
 -- Words, and a word with a number behind it.
 unfoldable pub numbered : List ℕ → ℕ → List ℕ
 numbered word n = word ++ decimal n

@@ -33,9 +33,8 @@ fn put_word(out: &mut [u8], at: usize, op: Op) -> usize
     ensures upper_bound { result ≤ at + 6 }
 {
     match op {
-        Op::Push { .. } => number::put_text(out, at, b" push "),
+        Op::Push { .. } | Op::PushPooled { .. } => number::put_text(out, at, b" push "),
         Op::Pop { .. } => number::put_text(out, at, b" pop "),
-        Op::PushPooled { .. } => number::put_text(out, at, b" push "),
         Op::Step => number::put_text(out, at, b" step "),
     }
 }
@@ -78,10 +77,8 @@ fn put_moved(out: &mut [u8], at: usize, op: Op, answer: Answer) -> usize
     ensures upper_bound { result ≤ at + 45 }
 {
     match op {
-        Op::Push { .. } => number::put_text(out, at, b"ok"),
-        Op::Pop { .. } => number::put_text(out, at, b"ok"),
-        Op::PushPooled { .. } => number::put_text(out, at, b"ok"),
         Op::Step => put_answer(out, at, answer),
+        _ => number::put_text(out, at, b"ok"),
     }
 }
 
@@ -170,10 +167,7 @@ fn put_header(out: &mut [u8], at: usize) -> usize
 fn has_room(len: usize, at: usize, n: usize) -> bool
     ensures { result ≡ leb (at + n) len }
 {
-    if len < n {
-        return false;
-    }
-    at <= len - n
+    n <= len && at <= len - n
 }
 
 /// Whether a buffer of `len` bytes has room for a line at a position.

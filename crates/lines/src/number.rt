@@ -1,7 +1,7 @@
 // Words and numbers, decimal and hexadecimal, written into a lent buffer. The caller sees to it that there is room for them.
 ghost use mathlib.Core.{Path.◌≡◌, List.{[], ◌∷◌, ◌++◌}};
 ghost use Rattle.std.specs.Prelude.{◌+◌, ◌*◌, ◌/◌, ◌%◌, ◌^◌, ◌≤◌, ◌<◌, length};
-ghost use Rattle.lines.specs.Line.{decimal_in, decimal, last_two, hex_four, hex, bytes_of, numbered, Put};
+ghost use Rattle.lines.specs.Line.{decimal_in, decimal, last_two, hex_four, hex, numbered, Put};
 
 /// One byte. Each of these functions answers the position after what it wrote.
 pub fn put(out: &mut [u8], at: usize, b: u8) -> usize
@@ -16,12 +16,9 @@ pub fn put_text(out: &mut [u8], at: usize, s: &[u8]) -> usize
     requires { at + length s.now ≤ length out.old }
     ensures { Put out.old out.new at result s.now }
 {
-    let mut i = 0;
-    while i < s.len() {
-        out[at + i] = s[i];
-        i += 1;
-    }
-    at + i
+    let end = at + s.len();
+    out[at..end].copy_from_slice(s);
+    end
 }
 
 // The last digit of n, and the last two.
@@ -110,9 +107,9 @@ pub fn put_decimal(out: &mut [u8], at: usize, n: u64) -> usize
     put_digits(out, at, n, 4)
 }
 
-// The glyphs of the last eight hexadecimal digits of w as the bytes of a word, the first lowest.
-fn glyphs(w: u64) -> u64
-    ensures { bytes_of 8 result ≡ hex_four (w / 2 ^ 16) ++ hex_four w }
+// The glyphs of the last eight hexadecimal digits of w.
+fn glyphs(w: u64) -> [u8; 8]
+    ensures { result ≡ hex_four (w / 2 ^ 16) ++ hex_four w }
 {
     // The halves change places, then the bytes of each half, then the digits of each byte.
     let a = w % 65536 * 4294967296 + w / 65536 % 65536;
@@ -120,30 +117,8 @@ fn glyphs(w: u64) -> u64
     let d = (b & 0x000f000f000f000f) * 256 + (b & 0x00f000f000f000f0) / 16;
     // 1 for each digit from 10 on, which adding 6 carries to 16.
     let letters = ((d + 0x0606060606060606) & 0x1010101010101010) / 16;
-    d + 0x3030303030303030 + letters * 39
-}
-
-// The four low bytes of g, the lowest first.
-fn put_bytes(out: &mut [u8], at: usize, g: u64) -> usize
-    requires { at + 4 ≤ length out.old }
-    ensures put { Put out.old out.new at result (bytes_of 4 g) }
-    ensures value { result ≡ at + 4 }
-{
-    let a = put(out, at, (g % 256) as u8);
-    let b = put(out, a, (g / 256 % 256) as u8);
-    let c = put(out, b, (g / 65536 % 256) as u8);
-    put(out, c, (g / 16777216 % 256) as u8)
-}
-
-// The last eight digits of w; the compiler makes one store of them.
-fn put_glyphs(out: &mut [u8], at: usize, w: u64) -> usize
-    requires { at + 8 ≤ length out.old }
-    ensures put { Put out.old out.new at result (hex_four (w / 2 ^ 16) ++ hex_four w) }
-    ensures value { result ≡ at + 8 }
-{
-    let g = glyphs(w);
-    let a = put_bytes(out, at, g);
-    put_bytes(out, a, g / 4294967296)
+    let lanes = d + 0x3030303030303030 + letters * 39;
+    lanes.to_le_bytes()
 }
 
 pub fn put_hex(out: &mut [u8], at: usize, w: u64) -> usize
@@ -151,8 +126,8 @@ pub fn put_hex(out: &mut [u8], at: usize, w: u64) -> usize
     ensures put { Put out.old out.new at result (hex w) }
     ensures value { result ≡ at + 16 }
 {
-    let a = put_glyphs(out, at, w >> 32);
-    put_glyphs(out, a, w)
+    let a = put_text(out, at, &glyphs(w >> 32));
+    put_text(out, a, &glyphs(w))
 }
 
 // A word and a number.

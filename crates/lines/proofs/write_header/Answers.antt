@@ -1,5 +1,5 @@
 -- With room it is `put_header`, without nothing is stored.
-use Rattle.std.proofs.Common.{sym, ◌∙◌}
+use Rattle.std.proofs.Common.{sym}
 use Rattle.lines.proofs.Puts.{put-none}
 use Rattle.lines.specs.Line.{given_room}
 use Rattle.lines.proofs.write_header.Goals as goal
