@@ -38,7 +38,7 @@ module _ (m n : ℕ) (text : List ℕ) (i : ℕ) (s : State) (calls order : List
   module _ (t : State) (calls' order' : List ℕ) (same : t.comment ≡ s.comment) where
     separated-ahead : (b : ℕ) → ahead m n text (i + 1) (separated t b (i + 1)) calls' order'
         ≡ held m n (read_all (follows t.comment b) (reading t calls' order'))
-    unfolding ahead separated read_all
+    unfolding ahead read_all
     separated-ahead b = split (eqb b 10)
         (λ e. rw (e, nothing_yet (i + 1)))
         (λ e. rw (e, nothing_yet (i + 1)))
@@ -70,7 +70,6 @@ text_ends m n text i s calls order h t calls' order' w p e k r =
 
 -- The numbers kept stay within their buffers.
 pub separated-within : (s : State) (b next m n : ℕ) → Within s m n → ((separated s b next).from ≤ next) × Within (separated s b next) m n
-unfolding separated
 separated-within s b next m n h =
     by_test (λ (x : State). (x.from ≤ next) × Within x m n) (eqb b 10)
     (λ _. (omega arith, record { calls = h.calls; order = h.order }))

@@ -24,7 +24,6 @@ none_written s calls order = record { calls = unwritten s.calls calls; order = u
 
 pub separated-written : (s t : State) (b next : ℕ) (calls order calls' order' : List ℕ) → BothWritten s t calls order calls' order'
     → BothWritten s (separated t b next) calls order calls' order'
-unfolding separated
 separated-written s t b next calls order calls' order' h =
     by_test (λ (x : State). BothWritten s x calls order calls' order') (eqb b 10)
     (λ _. record { calls = h.calls; order = h.order })
