@@ -1,11 +1,17 @@
--- A verdict, or why there is none.
-use Rattle.judge.specs.Saying.{message}
+-- A verdict, or why there is none, where there is room.
+use Rattle.std.proofs.Common.{sym}
+use Rattle.lines.specs.Line.{given_room}
+use Rattle.lines.proofs.Puts.{put-none}
 use Rattle.judge.proofs.say.put_message.Goals as goal
 
-pub returns-in-Told-clause-put : goal.returns-in-Told-clause-put
-unfolding message
-returns-in-Told-clause-put c = rw c.in-Told.is c.put_verdict.ensures.put
+pub returns-then-not-fits-clause-put : goal.returns-then-not-fits-clause-put
+unfolding given_room
+returns-then-not-fits-clause-put c = rw (sym c.if-not-fits.ensures) (put-none _ _)
 
-pub returns-in-Unread-clause-put : goal.returns-in-Unread-clause-put
-unfolding message
-returns-in-Unread-clause-put c = rw c.in-Unread.is c.put_unread.ensures.put
+pub returns-in-Ok-clause-put : goal.returns-in-Ok-clause-put
+unfolding given_room
+returns-in-Ok-clause-put c = rw (c.in-Ok.is, sym c.if-not-fits.ensures) c.put_verdict.ensures.put
+
+pub returns-in-Err-clause-put : goal.returns-in-Err-clause-put
+unfolding given_room
+returns-in-Err-clause-put c = rw (c.in-Err.is, sym c.if-not-fits.ensures) c.put_unread.ensures.put
