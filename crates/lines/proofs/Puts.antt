@@ -36,3 +36,6 @@ put-none l at = record { stop = sym (add-zero at); stored = refl }
 pub put-fits : {a b : List ℕ} {i r : ℕ} {xs : List ℕ} (most : ℕ) → Put a b i r (given_room most (length a) i xs) → i + most ≤ length a → Put a b i r xs
 unfolding given_room
 put-fits {a} {b} {i} {r} {xs} most p h = rw (le-leb (i + most) (length a) h) at p
+
+-- What `put_*` and `write_*` are proved by.
+pub ruleset puts = (put-more, put-none)
