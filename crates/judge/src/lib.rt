@@ -1,5 +1,5 @@
 //! The verdict on a history as text, and what is said of it (`say`). `historyfile` reads the text.
-#![tactic(auto)]
+#![tactic(auto, using(lines::proofs::Puts::puts), unfolding(lines::specs::Line::numbered, lines::specs::Line::given_room))]
 
 pub mod say;
 

@@ -38,4 +38,4 @@ unfolding given_room
 put-fits {a} {b} {i} {r} {xs} most p h = rw (le-leb (i + most) (length a) h) at p
 
 -- What `put_*` and `write_*` are proved by.
-pub ruleset puts = (put-more, put-none)
+pub ruleset puts = (put-more, put-none, put-fits)
