@@ -1,8 +1,8 @@
 -- A reading whose first numbers alone are held goes on to the same first numbers.
 use mathlib.Core.{Bool.{Bool, true, false, true≢false, ◌||◌, cond}, List.{List, [], ◌∷◌, ◌++◌}, Path.{◌≡◌, sym, ap, ◌∙◌}}
-use Rattle.std.proofs.Common.{ℕ, ◌+◌, ◌<◌, ◌≤◌, length-take-le, take_all, take-take, take-suc-set, leb-false, leb-true}
-use native.Mathlib.{Numerals.add-one, Omega.arith}
-use lib.{Dec.{eqb, eqb-suc-zero, leb}, ListN.{length, set, take, length-append, length-take}}
+use Rattle.std.proofs.Common.{ℕ, ◌≤◌, length-take-le, take_all, take-take, leb-false, leb-true}
+use native.Mathlib.{Omega.arith}
+use lib.{Dec.{eqb, eqb-suc-zero, leb}, ListN.{length, take, length-take}}
 use lib.Seq.{take-append-le}
 use Rattle.std.specs.Prelude.{Option, Some, None, is_some, is_none}
 use Rattle.historyfile.specs.declared.words.Fault.{Fault}
@@ -85,21 +85,3 @@ module _ (m n : ℕ) where
             → r ≡ held m n (cond (is_none f) (kept (turned s.place (says s.place.column (b ∷ bs))) (reading s calls order)) (reading s calls order))
         go None e = k
         go (Some why) e = absurd (true≢false e)
-
--- One number kept, or none.
-module _ (values : List ℕ) (count : ℕ) (h : count ≤ length values) where
-  pub none-given : take count values ≡ take (length values) (take count values)
-  none-given = sym (take_short (length values) count values h)
-
-  module _ (value : ℕ) where
-    pub none-fits : length values ≤ count → take count values ≡ take (length values) (appended (Some value) (take count values))
-    none-fits k =
-        let z : length (take count values) ≡ count = length-take-le count values h in
-        sym (take-append-le (length values) (take count values) (value ∷ []) (omega arith) ∙ take_short (length values) count values h)
-
-    pub one_more : count < length values
-        → take (count + 1) (set values count value) ≡ take (length values) (appended (Some value) (take count values))
-    one_more k =
-        let z : length (take count values) ≡ count = length-take-le count values h in
-        ap (λ (n : ℕ). take n (set values count value)) (add-one count) ∙ take-suc-set values count value k
-        ∙ sym (take_all (length values) (take count values ++ (value ∷ [])) (omega (arith, length-append (take count values) (value ∷ []))))
