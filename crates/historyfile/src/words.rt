@@ -30,14 +30,14 @@ pub enum Fault {
 fn is_blank(b: u8) -> bool
     ensures { result ≡ is_blank b }
 {
-    (b == b' ') | (b == b'\t') | (b == b'\r')
+    matches!(b, b' ' | b'\t' | b'\r')
 }
 
 /// Whether a byte is one of a word.
 pub(crate) fn of_word(comment: bool, b: u8) -> bool
     ensures { result ≡ of_word comment b }
 {
-    !(comment | is_blank(b) | (b == b'#') | (b == b'\n'))
+    !(comment || is_blank(b) || matches!(b, b'#' | b'\n'))
 }
 
 fn all_digits(word: &[u8]) -> bool
