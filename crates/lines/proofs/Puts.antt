@@ -6,7 +6,7 @@ use lib.{ListN.{length, set, take, drop, length-append}, Seq.{sets, sets-eq, tak
 use borrow.Rule.Slice.PartMut.{put_mid}
 use Rattle.std.proofs.lemmas.Slice.{put_mid-paste}
 use borrow.Author.Tests.{le-leb}
-use Rattle.lines.specs.{Line.{Put, given_room}, Writing.{Wrote}, declared.number.Writer.{Writer}}
+use Rattle.lines.specs.Line.{Put, given_room}
 
 pub sets_append : (l : List ℕ) (i : ℕ) (xs ys : List ℕ) → sets (sets l i xs) (i + length xs) ys ≡ sets l i (xs ++ ys)
 sets_append l i [] ys = ap (λ (k : ℕ). sets l k ys) (add-zero i)
@@ -37,12 +37,5 @@ pub put-fits : {a b : List ℕ} {i r : ℕ} {xs : List ℕ} (most : ℕ) → Put
 unfolding given_room
 put-fits {a} {b} {i} {r} {xs} most p h = rw (le-leb (i + most) (length a) h) at p
 
-pub wrote-more : {a b c : Writer} {xs ys : List ℕ} → Wrote a b xs → Wrote b c ys → Wrote a c (xs ++ ys)
-wrote-more p q = record {
-  put = put-more p.put q.put;
-  same_buffer = q.same_buffer ∙ p.same_buffer;
-  same_length = q.same_length ∙ p.same_length;
-}
-
 -- What `put_*` and `write_*` are proved by.
-pub ruleset puts = (put-more, put-none, put-fits, wrote-more)
+pub ruleset puts = (put-more, put-none, put-fits)

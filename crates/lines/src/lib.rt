@@ -1,5 +1,22 @@
 //! A line of the trace, a text or a number, written into a lent buffer where it has room.
-#![tactic(auto, using(crate::proofs::Puts::puts), unfolding(crate::specs::Line::numbered, crate::specs::Line::call_of, crate::specs::Line::entry_of, crate::specs::Line::answer_of, crate::specs::Line::outcome_of, crate::specs::Line::opening_of, crate::specs::Line::told, crate::specs::Line::anchor_text, crate::specs::Line::line_of, crate::specs::Line::header, crate::specs::Line::given_room, crate::specs::Line::last_two,))]
+#![tactic(
+    auto,
+    using(crate::proofs::Puts::puts),
+    unfolding(
+        crate::specs::Line::numbered,
+        crate::specs::Line::call_of,
+        crate::specs::Line::entry_of,
+        crate::specs::Line::answer_of,
+        crate::specs::Line::outcome_of,
+        crate::specs::Line::opening_of,
+        crate::specs::Line::told,
+        crate::specs::Line::anchor_text,
+        crate::specs::Line::line_of,
+        crate::specs::Line::header,
+        crate::specs::Line::given_room,
+        crate::specs::Line::last_two,
+    )
+)]
 
 mod number;
 
@@ -7,10 +24,8 @@ ghost use Rattle.std.specs.Prelude.{◌≡◌, ◌+◌, ◌≤◌};
 ghost use lib.{ListN.length, Dec.leb};
 ghost use Rattle.lines.specs.Line.{call_word, call_of, entry_of, answer_of, moved, outcome_of, opening_of, told, room};
 ghost use Rattle.lines.specs.Line.{anchor_text, line_of, header, decimal, Put, given_room};
-ghost use Rattle.lines.specs.Writing.{Wrote};
 ghost use Rattle.lines.specs.declared.Line;
 
-use crate::number::Writer;
 use model::{Answer, Entry, Op, Opening, Outcome};
 
 /// What a line tells besides its event number and Anchor.
@@ -29,142 +44,140 @@ pub enum Line {
 /// No line is longer.
 pub const ROOM: usize = 128;
 
-impl<'a> Writer<'a> {
-    fn put_word(&mut self, op: Op)
-        requires { self.old.at + 6 ≤ length self.old.out.now }
-        ensures put { Wrote self.old self.new (call_word op) }
-        ensures upper_bound { self.new.at ≤ self.old.at + 6 }
-    {
-        match op {
-            Op::Push { .. } | Op::PushPooled { .. } => self.put_text(b" push "),
-            Op::Pop { .. } => self.put_text(b" pop "),
-            Op::Step => self.put_text(b" step "),
-        }
+fn put_word(out: &mut [u8], at: usize, op: Op) -> usize
+    requires { at + 6 ≤ length out.old }
+    ensures put { Put out.old out.new at result (call_word op) }
+    ensures upper_bound { result ≤ at + 6 }
+{
+    match op {
+        Op::Push { .. } | Op::PushPooled { .. } => number::put_text(out, at, b" push "),
+        Op::Pop { .. } => number::put_text(out, at, b" pop "),
+        Op::Step => number::put_text(out, at, b" step "),
     }
+}
 
-    fn put_call(&mut self, task: usize, op: Op)
-        requires { self.old.at + 27 ≤ length self.old.out.now }
-        ensures put { Wrote self.old self.new (call_of task op) }
-        ensures upper_bound { self.new.at ≤ self.old.at + 27 }
-    {
-        self.put_numbered(b" ", task as u64);
-        self.put_word(op);
-    }
+fn put_call(out: &mut [u8], at: usize, task: usize, op: Op) -> usize
+    requires { at + 27 ≤ length out.old }
+    ensures put { Put out.old out.new at result (call_of task op) }
+    ensures upper_bound { result ≤ at + 27 }
+{
+    let a = number::put_numbered(out, at, b" ", task as u64);
+    put_word(out, a, op)
+}
 
-    fn put_entry(&mut self, e: Entry)
-        requires { self.old.at + 45 ≤ length self.old.out.now }
-        ensures put { Wrote self.old self.new (entry_of e) }
-        ensures upper_bound { self.new.at ≤ self.old.at + 45 }
-    {
-        self.put_numbered(b"got:", e.slot);
-        self.put_numbered(b":", e.label as u64);
-    }
+fn put_entry(out: &mut [u8], at: usize, e: Entry) -> usize
+    requires { at + 45 ≤ length out.old }
+    ensures put { Put out.old out.new at result (entry_of e) }
+    ensures upper_bound { result ≤ at + 45 }
+{
+    let a = number::put_numbered(out, at, b"got:", e.slot);
+    number::put_numbered(out, a, b":", e.label as u64)
+}
 
-    fn put_answer(&mut self, answer: Answer)
-        requires { self.old.at + 45 ≤ length self.old.out.now }
-        ensures put { Wrote self.old self.new (answer_of answer) }
-        ensures upper_bound { self.new.at ≤ self.old.at + 45 }
-    {
-        match answer {
-            Answer::Running(p) => self.put_numbered(b"at", p),
-            Answer::Pushed => self.put_text(b"pushed"),
-            Answer::Empty => self.put_text(b"empty"),
-            Answer::Popped(e) => self.put_entry(e),
-            Answer::NoFreeSlot => self.put_text(b"noslot"),
-        }
+fn put_answer(out: &mut [u8], at: usize, answer: Answer) -> usize
+    requires { at + 45 ≤ length out.old }
+    ensures put { Put out.old out.new at result (answer_of answer) }
+    ensures upper_bound { result ≤ at + 45 }
+{
+    match answer {
+        Answer::Running(p) => number::put_numbered(out, at, b"at", p),
+        Answer::Pushed => number::put_text(out, at, b"pushed"),
+        Answer::Empty => number::put_text(out, at, b"empty"),
+        Answer::Popped(e) => put_entry(out, at, e),
+        Answer::NoFreeSlot => number::put_text(out, at, b"noslot"),
     }
+}
 
-    fn put_moved(&mut self, op: Op, answer: Answer)
-        requires { self.old.at + 45 ≤ length self.old.out.now }
-        ensures put { Wrote self.old self.new (moved op answer) }
-        ensures upper_bound { self.new.at ≤ self.old.at + 45 }
-    {
-        match op {
-            Op::Step => self.put_answer(answer),
-            _ => self.put_text(b"ok"),
-        }
+fn put_moved(out: &mut [u8], at: usize, op: Op, answer: Answer) -> usize
+    requires { at + 45 ≤ length out.old }
+    ensures put { Put out.old out.new at result (moved op answer) }
+    ensures upper_bound { result ≤ at + 45 }
+{
+    match op {
+        Op::Step => put_answer(out, at, answer),
+        _ => number::put_text(out, at, b"ok"),
     }
+}
 
-    fn put_outcome(&mut self, op: Op, outcome: Outcome)
-        requires { self.old.at + 45 ≤ length self.old.out.now }
-        ensures put { Wrote self.old self.new (outcome_of op outcome) }
-        ensures upper_bound { self.new.at ≤ self.old.at + 45 }
-    {
-        match outcome {
-            Outcome::Refused(n) => self.put_numbered(b"no", n as u64),
-            Outcome::Moved(a) => self.put_moved(op, a),
-        }
+fn put_outcome(out: &mut [u8], at: usize, op: Op, outcome: Outcome) -> usize
+    requires { at + 45 ≤ length out.old }
+    ensures put { Put out.old out.new at result (outcome_of op outcome) }
+    ensures upper_bound { result ≤ at + 45 }
+{
+    match outcome {
+        Outcome::Refused(n) => number::put_numbered(out, at, b"no", n as u64),
+        Outcome::Moved(a) => put_moved(out, at, op, a),
     }
+}
 
-    fn put_opening(&mut self, opening: Opening)
-        requires { self.old.at + 22 ≤ length self.old.out.now }
-        ensures put { Wrote self.old self.new (opening_of opening) }
-        ensures upper_bound { self.new.at ≤ self.old.at + 22 }
-    {
-        match opening {
-            Opening::Refused(n) => self.put_numbered(b"no", n as u64),
-            Opening::Opened => self.put_text(b"ok"),
-        }
+fn put_opening(out: &mut [u8], at: usize, opening: Opening) -> usize
+    requires { at + 22 ≤ length out.old }
+    ensures put { Put out.old out.new at result (opening_of opening) }
+    ensures upper_bound { result ≤ at + 22 }
+{
+    match opening {
+        Opening::Refused(n) => number::put_numbered(out, at, b"no", n as u64),
+        Opening::Opened => number::put_text(out, at, b"ok"),
     }
+}
 
-    fn put_open(&mut self, opening: Opening)
-        requires { self.old.at + 72 ≤ length self.old.out.now }
-        ensures put { Wrote self.old self.new (told (Line.Open opening)) }
-        ensures upper_bound { self.new.at ≤ self.old.at + 72 }
-    {
-        self.put_text(b" - open ");
-        self.put_opening(opening);
-    }
+fn put_open(out: &mut [u8], at: usize, opening: Opening) -> usize
+    requires { at + 72 ≤ length out.old }
+    ensures put { Put out.old out.new at result (told (Line.Open opening)) }
+    ensures upper_bound { result ≤ at + 72 }
+{
+    let a = number::put_text(out, at, b" - open ");
+    put_opening(out, a, opening)
+}
 
-    fn put_act(&mut self, task: usize, op: Op, outcome: Outcome)
-        requires { self.old.at + 72 ≤ length self.old.out.now }
-        ensures put { Wrote self.old self.new (told (Line.Act task op outcome)) }
-        ensures upper_bound { self.new.at ≤ self.old.at + 72 }
-    {
-        self.put_call(task, op);
-        self.put_outcome(op, outcome);
-    }
+fn put_act(out: &mut [u8], at: usize, task: usize, op: Op, outcome: Outcome) -> usize
+    requires { at + 72 ≤ length out.old }
+    ensures put { Put out.old out.new at result (told (Line.Act task op outcome)) }
+    ensures upper_bound { result ≤ at + 72 }
+{
+    let a = put_call(out, at, task, op);
+    put_outcome(out, a, op, outcome)
+}
 
-    fn put_told(&mut self, line: Line)
-        requires { self.old.at + 72 ≤ length self.old.out.now }
-        ensures put { Wrote self.old self.new (told line) }
-        ensures upper_bound { self.new.at ≤ self.old.at + 72 }
-    {
-        match line {
-            Line::Open(opening) => self.put_open(opening),
-            Line::Act { task, op, outcome } => self.put_act(task, op, outcome),
-            Line::File => self.put_text(b" - file no16"),
-        }
+fn put_told(out: &mut [u8], at: usize, line: Line) -> usize
+    requires { at + 72 ≤ length out.old }
+    ensures put { Put out.old out.new at result (told line) }
+    ensures upper_bound { result ≤ at + 72 }
+{
+    match line {
+        Line::Open(opening) => put_open(out, at, opening),
+        Line::Act { task, op, outcome } => put_act(out, at, task, op, outcome),
+        Line::File => number::put_text(out, at, b" - file no16"),
     }
+}
 
-    // A space, the Anchor and the line's end.
-    fn put_anchor(&mut self, w: u64)
-        requires { self.old.at + 18 ≤ length self.old.out.now }
-        ensures put { Wrote self.old self.new (anchor_text w) }
-        ensures value { self.new.at ≡ self.old.at + 18 }
-    {
-        self.put(b' ');
-        self.put_hex(w);
-        self.put(b'\n');
-    }
+// A space, the Anchor and the line's end.
+fn put_anchor(out: &mut [u8], at: usize, w: u64) -> usize
+    requires { at + 18 ≤ length out.old }
+    ensures put { Put out.old out.new at result (anchor_text w) }
+    ensures value { result ≡ at + 18 }
+{
+    let a = number::put(out, at, b' ');
+    let b = number::put_hex(out, a, w);
+    number::put(out, b, b'\n')
+}
 
-    fn put_line(&mut self, event: u64, line: Line, anchor: u64)
-        requires { self.old.at + 128 ≤ length self.old.out.now }
-        ensures put { Wrote self.old self.new (line_of event line anchor) }
-        ensures upper_bound { self.new.at ≤ self.old.at + 128 }
-    {
-        self.put_decimal(event);
-        self.put_told(line);
-        self.put_anchor(anchor);
-    }
+fn put_line(out: &mut [u8], at: usize, event: u64, line: Line, anchor: u64) -> usize
+    requires { at + 128 ≤ length out.old }
+    ensures put { Put out.old out.new at result (line_of event line anchor) }
+    ensures upper_bound { result ≤ at + 128 }
+{
+    let a = number::put_decimal(out, at, event);
+    let b = put_told(out, a, line);
+    put_anchor(out, b, anchor)
+}
 
-    fn put_header(&mut self)
-        requires { self.old.at + 128 ≤ length self.old.out.now }
-        ensures put { Wrote self.old self.new header }
-        ensures upper_bound { self.new.at ≤ self.old.at + 128 }
-    {
-        self.put_text(b"event task call answer anchor\n");
-    }
+fn put_header(out: &mut [u8], at: usize) -> usize
+    requires { at + 128 ≤ length out.old }
+    ensures put { Put out.old out.new at result header }
+    ensures upper_bound { result ≤ at + 128 }
+{
+    number::put_text(out, at, b"event task call answer anchor\n")
 }
 
 // Whether a buffer of `len` bytes has room for n bytes at a position.
@@ -187,9 +200,7 @@ pub fn write_line(out: &mut [u8], at: usize, event: u64, line: Line, anchor: u64
     ensures upper_bound { result ≤ at + 128 }
 {
     if fits(out.len(), at) {
-        let mut writer = Writer { out, at };
-        writer.put_line(event, line, anchor);
-        writer.at
+        put_line(out, at, event, line, anchor)
     } else {
         at
     }
@@ -201,9 +212,7 @@ pub fn write_header(out: &mut [u8], at: usize) -> usize
     ensures upper_bound { result ≤ at + 128 }
 {
     if fits(out.len(), at) {
-        let mut writer = Writer { out, at };
-        writer.put_header();
-        writer.at
+        put_header(out, at)
     } else {
         at
     }
@@ -215,9 +224,7 @@ pub fn write_text(out: &mut [u8], at: usize, s: &[u8]) -> usize
     ensures upper_bound { result ≤ at + length s.now }
 {
     if has_room(out.len(), at, s.len()) {
-        let mut writer = Writer { out, at };
-        writer.put_text(s);
-        writer.at
+        number::put_text(out, at, s)
     } else {
         at
     }
@@ -229,9 +236,7 @@ pub fn write_decimal(out: &mut [u8], at: usize, n: u64) -> usize
     ensures upper_bound { result ≤ at + 20 }
 {
     if has_room(out.len(), at, 20) {
-        let mut writer = Writer { out, at };
-        writer.put_decimal(n);
-        writer.at
+        number::put_decimal(out, at, n)
     } else {
         at
     }

@@ -1,14 +1,111 @@
 // Words and numbers, decimal and hexadecimal, written into a lent buffer. The caller sees to it that there is room for them.
 ghost use mathlib.Core.{Path.◌≡◌, List.{[], ◌∷◌, ◌++◌}};
 ghost use Rattle.std.specs.Prelude.{◌+◌, ◌*◌, ◌/◌, ◌%◌, ◌^◌, ◌≤◌, ◌<◌, length};
-ghost use Rattle.lines.specs.Line.{decimal_in, decimal, last_two, hex_four, hex, numbered};
-ghost use Rattle.lines.specs.Writing.{Wrote};
+ghost use Rattle.lines.specs.Line.{decimal_in, decimal, last_two, hex_four, hex, numbered, Put};
 
-/// A text under way: a buffer, and the position behind what is written.
-#[derive(Drop)]
-pub struct Writer<'a> {
-    pub out: &'a mut [u8],
-    pub at: usize,
+/// One byte. Each of these functions answers the position after what it wrote.
+pub fn put(out: &mut [u8], at: usize, b: u8) -> usize
+    requires { at < length out.old }
+    ensures { Put out.old out.new at result (b ∷ []) }
+{
+    out[at] = b;
+    at + 1
+}
+
+pub fn put_text(out: &mut [u8], at: usize, s: &[u8]) -> usize
+    requires { at + length s.now ≤ length out.old }
+    ensures { Put out.old out.new at result s.now }
+{
+    let end = at + s.len();
+    out[at..end].copy_from_slice(s);
+    end
+}
+
+// The last digit of n, and the last two.
+fn put_last(out: &mut [u8], at: usize, n: u64) -> usize
+    requires { at < length out.old }
+    ensures { Put out.old out.new at result ((48 + n % 10) ∷ []) }
+{
+    put(out, at, 48 + (n % 10) as u8)
+}
+
+fn put_pair(out: &mut [u8], at: usize, n: u64) -> usize
+    requires { at + 2 ≤ length out.old }
+    ensures put { Put out.old out.new at result (last_two n) }
+    ensures value { result ≡ at + 2 }
+{
+    let a = put_last(out, at, n / 10);
+    put_last(out, a, n)
+}
+
+// The decimal digits of n: at most two, at most four, at most eight. These three and `put_digits` are not one function that
+// recurs by pairs, since that is slower: a trace of 200,000 steps takes 88,945,637 instructions by it, and 75,682,124 by these.
+fn put_few(out: &mut [u8], at: usize, n: u64) -> usize
+    requires { at + 2 ≤ length out.old }
+    ensures put { Put out.old out.new at result (decimal_in 1 n) }
+    ensures upper_bound { result ≤ at + 2 }
+{
+    if n < 10 {
+        return put_last(out, at, n);
+    }
+    put_pair(out, at, n)
+}
+
+fn put_some(out: &mut [u8], at: usize, n: u64) -> usize
+    requires { at + 4 ≤ length out.old }
+    ensures put { Put out.old out.new at result (decimal_in 3 n) }
+    ensures upper_bound { result ≤ at + 4 }
+{
+    if n < 100 {
+        return put_few(out, at, n);
+    }
+    let a = put_few(out, at, n / 100);
+    put_pair(out, a, n)
+}
+
+fn put_eight(out: &mut [u8], at: usize, n: u64) -> usize
+    requires { at + 8 ≤ length out.old }
+    ensures put { Put out.old out.new at result (decimal_in 7 n) }
+    ensures upper_bound { result ≤ at + 8 }
+{
+    if n < 10000 {
+        return put_some(out, at, n);
+    }
+    let a = put_some(out, at, n / 10000);
+    let b = put_pair(out, a, n / 100);
+    put_pair(out, b, n)
+}
+
+// The decimal digits of n by groups of four, at most more groups behind the first.
+fn put_digits(out: &mut [u8], at: usize, n: u64, more: usize) -> usize
+    requires { at + (4 * more + 4) ≤ length out.old }
+    ensures put { Put out.old out.new at result (decimal_in (4 * more + 3) n) }
+    ensures upper_bound { result ≤ at + (4 * more + 4) }
+{
+    if more == 0 {
+        return put_some(out, at, n);
+    }
+    if n < 10000 {
+        return put_some(out, at, n);
+    }
+    let a = put_digits(out, at, n / 10000, more - 1);
+    let b = put_pair(out, a, n / 100);
+    put_pair(out, b, n)
+}
+
+pub fn put_decimal(out: &mut [u8], at: usize, n: u64) -> usize
+    requires { at + 20 ≤ length out.old }
+    ensures put { Put out.old out.new at result (decimal n) }
+    ensures upper_bound { result ≤ at + 20 }
+{
+    if n < 10 {
+        return put_last(out, at, n);
+    }
+    // The common case apart, by no recursion: with `put_digits` alone that trace takes 82,015,772 instructions.
+    if n < 100000000 {
+        return put_eight(out, at, n);
+    }
+    put_digits(out, at, n, 4)
 }
 
 // The glyphs of the last eight hexadecimal digits of w.
@@ -25,134 +122,21 @@ fn glyphs(w: u64) -> [u8; 8]
     lanes.to_le_bytes()
 }
 
-impl<'a> Writer<'a> {
-    pub fn put(&mut self, b: u8)
-        requires { self.old.at < length self.old.out.now }
-        ensures { Wrote self.old self.new (b ∷ []) }
-    {
-        self.out[self.at] = b;
-        self.at += 1;
-    }
+pub fn put_hex(out: &mut [u8], at: usize, w: u64) -> usize
+    requires { at + 16 ≤ length out.old }
+    ensures put { Put out.old out.new at result (hex w) }
+    ensures value { result ≡ at + 16 }
+{
+    let a = put_text(out, at, &glyphs(w >> 32));
+    put_text(out, a, &glyphs(w))
+}
 
-    pub fn put_text(&mut self, s: &[u8])
-        requires { self.old.at + length s.now ≤ length self.old.out.now }
-        ensures { Wrote self.old self.new s.now }
-    {
-        let end = self.at + s.len();
-        self.out[self.at..end].copy_from_slice(s);
-        self.at = end;
-    }
-
-    // The last digit of n, and the last two.
-    fn put_last(&mut self, n: u64)
-        requires { self.old.at < length self.old.out.now }
-        ensures { Wrote self.old self.new ((48 + n % 10) ∷ []) }
-    {
-        self.put(48 + (n % 10) as u8);
-    }
-
-    fn put_pair(&mut self, n: u64)
-        requires { self.old.at + 2 ≤ length self.old.out.now }
-        ensures put { Wrote self.old self.new (last_two n) }
-        ensures value { self.new.at ≡ self.old.at + 2 }
-    {
-        self.put_last(n / 10);
-        self.put_last(n);
-    }
-
-    // The decimal digits of n: at most two, at most four, at most eight. These three and `put_digits` are not one function that
-    // recurs by pairs, since that is slower: a trace of 200,000 steps takes 88,945,637 instructions by it, and 75,682,124 by these.
-    fn put_few(&mut self, n: u64)
-        requires { self.old.at + 2 ≤ length self.old.out.now }
-        ensures put { Wrote self.old self.new (decimal_in 1 n) }
-        ensures upper_bound { self.new.at ≤ self.old.at + 2 }
-    {
-        if n < 10 {
-            self.put_last(n);
-            return;
-        }
-        self.put_pair(n);
-    }
-
-    fn put_some(&mut self, n: u64)
-        requires { self.old.at + 4 ≤ length self.old.out.now }
-        ensures put { Wrote self.old self.new (decimal_in 3 n) }
-        ensures upper_bound { self.new.at ≤ self.old.at + 4 }
-    {
-        if n < 100 {
-            self.put_few(n);
-            return;
-        }
-        self.put_few(n / 100);
-        self.put_pair(n);
-    }
-
-    fn put_eight(&mut self, n: u64)
-        requires { self.old.at + 8 ≤ length self.old.out.now }
-        ensures put { Wrote self.old self.new (decimal_in 7 n) }
-        ensures upper_bound { self.new.at ≤ self.old.at + 8 }
-    {
-        if n < 10000 {
-            self.put_some(n);
-            return;
-        }
-        self.put_some(n / 10000);
-        self.put_pair(n / 100);
-        self.put_pair(n);
-    }
-
-    // The decimal digits of n by groups of four, at most more groups behind the first.
-    fn put_digits(&mut self, n: u64, more: usize)
-        requires { self.old.at + (4 * more + 4) ≤ length self.old.out.now }
-        ensures put { Wrote self.old self.new (decimal_in (4 * more + 3) n) }
-        ensures upper_bound { self.new.at ≤ self.old.at + (4 * more + 4) }
-    {
-        if more == 0 {
-            self.put_some(n);
-            return;
-        }
-        if n < 10000 {
-            self.put_some(n);
-            return;
-        }
-        self.put_digits(n / 10000, more - 1);
-        self.put_pair(n / 100);
-        self.put_pair(n);
-    }
-
-    pub fn put_decimal(&mut self, n: u64)
-        requires { self.old.at + 20 ≤ length self.old.out.now }
-        ensures put { Wrote self.old self.new (decimal n) }
-        ensures upper_bound { self.new.at ≤ self.old.at + 20 }
-    {
-        if n < 10 {
-            self.put_last(n);
-            return;
-        }
-        // The common case apart, by no recursion: with `put_digits` alone that trace takes 82,015,772 instructions.
-        if n < 100000000 {
-            self.put_eight(n);
-            return;
-        }
-        self.put_digits(n, 4);
-    }
-
-    pub fn put_hex(&mut self, w: u64)
-        requires { self.old.at + 16 ≤ length self.old.out.now }
-        ensures put { Wrote self.old self.new (hex w) }
-        ensures value { self.new.at ≡ self.old.at + 16 }
-    {
-        self.put_text(&glyphs(w >> 32));
-        self.put_text(&glyphs(w));
-    }
-
-    // A word and a number.
-    pub fn put_numbered(&mut self, word: &[u8], n: u64)
-        requires { self.old.at + length word.now + 20 ≤ length self.old.out.now }
-        ensures put { Wrote self.old self.new (numbered word.now n) }
-        ensures upper_bound { self.new.at ≤ self.old.at + length word.now + 20 }
-    {
-        self.put_text(word);
-        self.put_decimal(n);
-    }
+// A word and a number.
+pub fn put_numbered(out: &mut [u8], at: usize, word: &[u8], n: u64) -> usize
+    requires { at + length word.now + 20 ≤ length out.old }
+    ensures put { Put out.old out.new at result (numbered word.now n) }
+    ensures upper_bound { result ≤ at + length word.now + 20 }
+{
+    let a = put_text(out, at, word);
+    put_decimal(out, a, n)
 }

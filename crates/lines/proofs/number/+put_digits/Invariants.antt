@@ -1,5 +1,5 @@
 -- The groups that are left.
-use Rattle.lines.proofs.number.Writer.+put_digits.Given as goal
+use Rattle.lines.proofs.number.+put_digits.Given as goal
 
 abbrev pub decreases-put_digits : goal.decreases-put_digits
 decreases-put_digits l = l.more

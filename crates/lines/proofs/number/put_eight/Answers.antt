@@ -1,7 +1,7 @@
 -- At most four digits, or those of n / 10000 and four more.
-use Rattle.lines.proofs.Puts.{wrote-more}
+use Rattle.lines.proofs.Puts.{put-more}
 use Rattle.lines.proofs.Digits.{decimal-room, decimal_four}
-use Rattle.lines.proofs.number.Writer.put_eight.Goals as goal
+use Rattle.lines.proofs.number.put_eight.Goals as goal
 
 pub returns-then-n-lt10000-clause-put : goal.returns-then-n-lt10000-clause-put
 returns-then-n-lt10000-clause-put c = rw (decimal-room 3 4 _ c.if-n-lt10000.true) c.put_some.ensures.put
@@ -9,4 +9,4 @@ returns-then-n-lt10000-clause-put c = rw (decimal-room 3 4 _ c.if-n-lt10000.true
 pub returns-clause-put : goal.returns-clause-put
 returns-clause-put c =
     rw (decimal_four 3 _ c.if-n-lt10000.false)
-    (wrote-more (wrote-more c.put_some-2.ensures.put c.put_pair.ensures.put) c.put_pair-2.ensures.put)
+    (put-more (put-more c.put_some-a.ensures.put c.put_pair-b.ensures.put) c.put_pair.ensures.put)

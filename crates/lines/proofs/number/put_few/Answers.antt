@@ -1,6 +1,6 @@
 -- One digit, or two.
 use Rattle.lines.proofs.Digits.{decimal-last, decimal_two}
-use Rattle.lines.proofs.number.Writer.put_few.Goals as goal
+use Rattle.lines.proofs.number.put_few.Goals as goal
 
 pub returns-then-n-lt10-clause-put : goal.returns-then-n-lt10-clause-put
 returns-then-n-lt10-clause-put c = rw (decimal-last 1 _ c.if-n-lt10.true) c.put_last.ensures

@@ -1,7 +1,7 @@
 -- At most twenty digits.
 use Rattle.lines.proofs.Digits.{decimal-last, decimal-room}
 use Rattle.lines.specs.Line.{decimal}
-use Rattle.lines.proofs.number.Writer.put_decimal.Goals as goal
+use Rattle.lines.proofs.number.put_decimal.Goals as goal
 
 pub returns-then-n-lt10-clause-put : goal.returns-then-n-lt10-clause-put
 unfolding decimal

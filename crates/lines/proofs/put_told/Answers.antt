@@ -1,6 +1,6 @@
 -- A malformed place.
 use Rattle.lines.specs.Line.{decimal, decimal_in, numbered, told}
-use Rattle.lines.proofs.number.Writer.put_told.Goals as goal
+use Rattle.lines.proofs.put_told.Goals as goal
 
 pub returns-in-File-clause-put : goal.returns-in-File-clause-put
 unfolding told numbered decimal decimal_in
