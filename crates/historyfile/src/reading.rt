@@ -15,6 +15,7 @@ pub struct Place {
     /// The line, from 1.
     pub line: u64,
     /// The column of the next word of a call, 0 to 6; 7 behind the last, 8 in the order.
+    // A number and no enum, since `words::says` answers for every number, and may ask no more of its callers.
     pub column: u64,
     /// The label of the call is `-`.
     pub unlabelled: bool,

@@ -72,6 +72,8 @@ fn first(word: &[u8]) -> Result<Meaning, Fault>
     }
 }
 
+// Kinds, sides and answers stay numbers, since a call may name them by a number too, any number, and `audit::audit_words` judges
+// what it lent as numbers.
 fn kind(word: &[u8]) -> Result<Meaning, Fault>
     ensures { result ≡ meaning.kind word.now }
 {

@@ -3,7 +3,10 @@ ghost use mathlib.Core.{Path.◌≡◌, List.{[], ◌∷◌, ◌++◌}};
 ghost use Rattle.std.specs.Prelude.{◌+◌, ◌*◌, ◌/◌, ◌%◌, ◌^◌, ◌≤◌, ◌<◌, length};
 ghost use Rattle.lines.specs.Line.{decimal_in, decimal, last_two, hex_four, hex, numbered, Put};
 
-/// One byte. Each of these functions answers the position after what it wrote.
+// Each of these functions, and those of lib.rt, takes the buffer and a position, and answers the position after what it wrote.
+// They are no methods of a writer that holds both, since that is slower: a trace of 200,000 steps takes 85,125,905 instructions
+// by it, and 75,682,124 by these.
+/// One byte.
 pub fn put(out: &mut [u8], at: usize, b: u8) -> usize
     requires { at < length out.old }
     ensures { Put out.old out.new at result (b ∷ []) }
