@@ -70,7 +70,8 @@ module _ (m n : ℕ) where
     word_none (b ∷ bs) e = go s.place.fault (rw (eqb-suc-zero (length bs)) at e)
       where
         go : (f : Option Fault) → is_some f ≡ true
-            → reading s calls order ≡ held m n (cond (is_none f) (kept (turned s.place (says s.place.column (b ∷ bs))) (reading s calls order)) (reading s calls order))
+            → reading s calls order ≡ held m n
+                (cond (is_none f) (kept (turned s.place (says s.place.column (b ∷ bs))) (reading s calls order)) (reading s calls order))
         go None e = absurd (true≢false (sym e))
         go (Some why) e = sym (lies_held s calls order h)
 
@@ -82,6 +83,7 @@ module _ (m n : ℕ) where
     word_some (b ∷ bs) r e k = go s.place.fault (rw (eqb-suc-zero (length bs)) at e)
       where
         go : (f : Option Fault) → is_some f ≡ false
-            → r ≡ held m n (cond (is_none f) (kept (turned s.place (says s.place.column (b ∷ bs))) (reading s calls order)) (reading s calls order))
+            → r ≡ held m n
+                (cond (is_none f) (kept (turned s.place (says s.place.column (b ∷ bs))) (reading s calls order)) (reading s calls order))
         go None e = k
         go (Some why) e = absurd (true≢false e)

@@ -51,7 +51,6 @@ entry_most e =
     (numbered_most (ascii "got:") e.slot) (numbered_most (ascii ":") e.label)
 
 answer_most : (a : Answer) → length (answer_of a) ≤ 45
-unfolding answer_of
 answer_most (Running p) = omega (arith, numbered_most (ascii "at") p)
 answer_most Pushed = omega arith
 answer_most Empty = omega arith
@@ -65,12 +64,10 @@ moved_most (op.PushPooled side label) a = omega arith
 moved_most op.Step a = answer_most a
 
 outcome_most : (o : Op) (x : Outcome) → length (outcome_of o x) ≤ 45
-unfolding outcome_of
 outcome_most o (Refused n) = omega (arith, numbered_most no n)
 outcome_most o (Moved a) = moved_most o a
 
 opening_most : (o : Opening) → length (opening_of o) ≤ 22
-unfolding opening_of
 opening_most (opening.Refused n) = numbered_most no n
 opening_most opening.Opened = omega arith
 

@@ -22,7 +22,8 @@ put-more {a} {b} {c} {i} {m} {r} {xs} {ys} p q =
     }
 
 -- Bytes copied into the part of a list from position at on.
-pub put-copied : (l s part : List ℕ) (at k : ℕ) → part ≡ s → k ≡ length s → at + length s ≤ length l → Put l (put_mid at k l part) at (at + length s) s
+pub put-copied : (l s part : List ℕ) (at k : ℕ) → part ≡ s → k ≡ length s → at + length s ≤ length l
+    → Put l (put_mid at k l part) at (at + length s) s
 put-copied l s part at k e n h = record {
   stop = refl;
   stored = put_mid-paste at k l part s (length s) e (sym n) refl

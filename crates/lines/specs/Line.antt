@@ -18,7 +18,7 @@ unfoldable pub decimal : ℕ → List ℕ
 decimal n = decimal_in 19 n
 
 -- The last two decimal digits.
-unfoldable pub last_two : ℕ → List ℕ
+abbrev pub last_two : ℕ → List ℕ
 last_two n = (48 + n / 10 % 10) ∷ (48 + n % 10) ∷ []
 
 -- The last four hexadecimal digits of n, and sixteen of a word.
@@ -56,7 +56,7 @@ unfoldable pub entry_of : Entry → List ℕ
 entry_of e = numbered (ascii "got:") e.slot ++ numbered (ascii ":") e.label
 
 -- Running at a place, or the answer.
-unfoldable pub answer_of : Answer → List ℕ
+abbrev pub answer_of : Answer → List ℕ
 answer_of (Running p) = numbered (ascii "at") p
 answer_of Pushed = ascii "pushed"
 answer_of Empty = ascii "empty"
@@ -71,11 +71,11 @@ moved (op.PushPooled side label) a = ok
 moved op.Step a = answer_of a
 
 -- A refusal has its number.
-unfoldable pub outcome_of : Op → Outcome → List ℕ
+abbrev pub outcome_of : Op → Outcome → List ℕ
 outcome_of op (Refused n) = numbered no n
 outcome_of op (Moved a) = moved op a
 
-unfoldable pub opening_of : Opening → List ℕ
+abbrev pub opening_of : Opening → List ℕ
 opening_of (opening.Refused n) = numbered no n
 opening_of opening.Opened = ok
 

@@ -1,5 +1,5 @@
 //! A line of the trace, a text or a number, written into a lent buffer where it has room.
-#![tactic(auto, using(crate::proofs::Puts::puts), unfolding(crate::specs::Line::numbered, crate::specs::Line::call_of, crate::specs::Line::entry_of, crate::specs::Line::answer_of, crate::specs::Line::outcome_of, crate::specs::Line::opening_of, crate::specs::Line::told, crate::specs::Line::anchor_text, crate::specs::Line::line_of, crate::specs::Line::header, crate::specs::Line::given_room, crate::specs::Line::last_two,))]
+#![tactic(auto, using(crate::proofs::Puts::puts), unfolding(crate::specs::Line::given_room))]
 
 mod number;
 
