@@ -20,6 +20,7 @@ pub struct Finished {
     pub end: u64,
 }
 
+// Its numbers stay, since `zc_audit_words` has them in its reply, and `Meaning` of specs/Laws.antt speaks of them.
 #[derive(Clone, Copy)]
 pub enum Verdict {
     /// With the document's number, 40.

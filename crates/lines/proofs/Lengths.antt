@@ -52,7 +52,6 @@ entry_most e =
     (numbered_most (ascii "got:") e.slot) (numbered_most (ascii ":") e.label)
 
 answer_most : (a : Answer) → length (answer_of a) ≤ 45
-unfolding answer_of
 answer_most (Running p) = omega (arith, numbered_most (ascii "at") p)
 answer_most Pushed = omega arith
 answer_most Empty = omega arith
@@ -66,12 +65,10 @@ moved_most (op.PushPooled side label) a = omega arith
 moved_most op.Step a = answer_most a
 
 outcome_most : (o : Op) (x : Outcome) → length (outcome_of o x) ≤ 45
-unfolding outcome_of
 outcome_most o (Err refusal) = omega (arith, numbered_most no refusal.number)
 outcome_most o (Ok a) = moved_most o a
 
 opening_most : (o : Opening) → length (opening_of o) ≤ 22
-unfolding opening_of
 opening_most (Err refusal) = numbered_most no refusal.number
 opening_most (Ok u) = omega arith
 
