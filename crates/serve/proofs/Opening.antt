@@ -7,7 +7,7 @@ use lib.{Dec.eqb, ListN.length}
 use Rattle.model.specs.Outcomes.{Opened, Opening, Refused}
 use Rattle.model.specs.{Tables.Queue, Refusals.open_refusal}
 use Rattle.model.specs.{Calls.{OpenDone, opened, open_as, opening_code}, History.{Request, run, final, NoFreeSlotTrue}}
-use Rattle.model.proofs.{Linearizable.linearizable, Never34.never_34, Retries.retries-sum, Tests.Truth.{split, same_refusal}
+use Rattle.model.proofs.{Linearizable.linearizable, Never34.never_34, Retries.retries-sum, Tests.Truth.{split, same_refusal}}
 use Rattle.model.proofs.NoFreeSlot.{no_free_slot-right}
 use Rattle.stock_model.proofs.Accounts.{every-label, stock_taking}
 use Rattle.capi.specs.Replies.{uppers_at, Coded, coded}
