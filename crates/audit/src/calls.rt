@@ -38,30 +38,16 @@ fn apart_from(words: &[u64], at: usize, c: Finished) -> bool
     requires { at ≤ length words.now / 7 }
     ensures { result ≡ all_of (meaning.apart c) (drop at (calls_in words.now)) }
 {
-    for i in at..words.len() / 7 {
-        let d = call_at(words, i);
-        if !apart(c, d) {
-            return false;
-        }
-    }
-    true
+    (at..words.len() / 7).all(|i| apart(c, call_at(words, i)))
 }
 
 pub fn accepted(words: &[u64]) -> bool
     ensures { result ≡ meaning.accepted (calls_in words.now) }
 {
     let n = words.len() / 7;
-    if 64 < n {
-        return false;
-    }
-    for i in 0..n {
-        let c = call_at(words, i);
-        if !well_formed(c) {
-            return false;
-        }
-        if !apart_from(words, i + 1, c) {
-            return false;
-        }
-    }
-    true
+    n <= 64
+        && (0..n).all(|i| {
+            let c = call_at(words, i);
+            well_formed(c) && apart_from(words, i + 1, c)
+        })
 }

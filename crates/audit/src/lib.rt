@@ -17,6 +17,7 @@ ghost use Rattle.audit_model.specs.{Audit.{all_of, in_order, replay, verdict}, L
 ghost use Rattle.audit.specs.FirstMisplaced.{first_misplaced};
 
 use audit_model::{Verdict, VerdictReply};
+use labels::Labels;
 
 // The calls up to the first position that stands too early, which fails whatever it answers.
 fn served(words: &[u64], order: &[u64], misplaced: usize) -> Verdict
@@ -24,16 +25,11 @@ fn served(words: &[u64], order: &[u64], misplaced: usize) -> Verdict
         × (misplaced ≡ first_misplaced (in_order (calls_in words.now) order.now)) }
     ensures { result ≡ replay 1 (in_order (calls_in words.now) order.now) [] }
 {
-    let mut buffer = [0; 128];
-    let mut low: usize = 64;
-    let mut high: usize = 64;
+    let mut labels = Labels::new();
     for i in 0..misplaced {
-        let s = labels::serve_label(words, (order[i] - 1) as usize, &mut buffer, low, high);
-        if !s.same {
+        if !labels.serve(words, (order[i] - 1) as usize) {
             return Verdict::Failed(i as u32 + 1);
         }
-        low = s.low;
-        high = s.high;
     }
     if misplaced < order.len() {
         return Verdict::Failed(misplaced as u32 + 1);
