@@ -38,7 +38,13 @@ fn apart_from(words: &[u64], at: usize, c: Finished) -> bool
     requires { at ≤ length words.now / 7 }
     ensures { result ≡ all_of (meaning.apart c) (drop at (calls_in words.now)) }
 {
-    (at..words.len() / 7).all(|i| apart(c, call_at(words, i)))
+    for i in at..words.len() / 7 {
+        let d = call_at(words, i);
+        if !apart(c, d) {
+            return false;
+        }
+    }
+    true
 }
 
 pub fn accepted(words: &[u64]) -> bool

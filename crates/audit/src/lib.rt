@@ -25,7 +25,12 @@ fn served(words: &[u64], order: &[u64], misplaced: usize) -> Verdict
         × (misplaced ≡ first_misplaced (in_order (calls_in words.now) order.now)) }
     ensures { result ≡ replay 1 (in_order (calls_in words.now) order.now) [] }
 {
-    let mut labels = Labels::new();
+    let mut places = [0; 128];
+    let mut labels = Labels {
+        places: &mut places,
+        low: 64,
+        high: 64,
+    };
     for i in 0..misplaced {
         if !labels.serve(words, (order[i] - 1) as usize) {
             return Verdict::Failed(i as u32 + 1);

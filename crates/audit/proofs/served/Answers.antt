@@ -15,16 +15,13 @@ pub loop-i-init : goal.loop-i-init
 loop-i-init c =
     let ws = c.args.words.now in
     let cs = calls_in ws in
-    let low : c.new-labels.result.low ≡ 64 = ap (λ (q : Labels). q.low) c.new-labels.ensures in
-    let high : c.new-labels.result.high ≡ 64 = ap (λ (q : Labels). q.high) c.new-labels.ensures in
-    let places : c.new-labels.result.places ≡ replicate 128 0 = ap (λ (q : Labels). q.places) c.new-labels.ensures in
     record {
       order = omega arith;
       low = omega arith;
       high = omega arith;
-      holds = rw places (record { size = refl; calls = zeros_hold (length ws / 7 - 1) 128 });
+      holds = record { size = refl; calls = zeros_hold (length ws / 7 - 1) 128 };
       first = omega (arith, c.requires.3);
-      left = ap (replay 1 (in_order cs c.args.order.now)) (rw (low, high) (slice_empty 64 (map (label_at ws) c.new-labels.result.places)));
+      left = ap (replay 1 (in_order cs c.args.order.now)) (slice_empty 64 (map (label_at ws) (replicate 128 0)));
     }
 
 pub offset_bounds-order-i : goal.offset_bounds-order-i
@@ -78,7 +75,7 @@ returns-then-not-serve c =
     let at = c.loop-i.labels in
     let inv = c.loop-i.invariant in
     let less = (known ws ks c.args.misplaced i c.requires.2 c.requires.3 c.loop-i-test.true).0 in
-    let q = held ws at.low at.high at.places in
+    let q = held ws at.low at.high at.places.now in
     fails (call ws ks c.requires.2 i less) (rest ws ks c.requires.2 i less) i c.args.misplaced (is ws ks c.requires.2 i less _ inv.first) q c.loop-i-test.true
     (sym c.serve.ensures.same_is ∙ c.if-not-serve.true) ∙ onward ws ks c.requires.2 i less q _ inv.left
 
@@ -90,7 +87,7 @@ loop-i-preserved c =
     let at = c.loop-i.labels in
     let inv = c.loop-i.invariant in
     let less = (known ws ks c.args.misplaced i c.requires.2 c.requires.3 c.loop-i-test.true).0 in
-    let q = held ws at.low at.high at.places in
+    let q = held ws at.low at.high at.places.now in
     let one = call ws ks c.requires.2 i less in
     let others = rest ws ks c.requires.2 i less in
     let first = is ws ks c.requires.2 i less _ inv.first in
@@ -113,7 +110,7 @@ returns-then-misplaced-order c =
     let inv = c.loop-i.invariant in
     let here : c.args.misplaced ≡ i = omega arith in
     let less : i < length ks = omega arith in
-    let q = held ws at.low at.high at.places in
+    let q = held ws at.low at.high at.places.now in
     ap (λ (m : ℕ). Failed (m + 1)) here
     ∙ stops _ _ i c.args.misplaced (is ws ks c.requires.2 i less _ inv.first) q (λ z. omega arith) ∙ onward ws ks c.requires.2 i less q _ inv.left
 
@@ -123,5 +120,5 @@ returns c =
     let ks = c.args.order.now in
     let at = c.loop-i.labels in
     let end : length ks ≤ c.loop-i.i = omega arith in
-    sym (ap (λ (l : List ℕ). replay (c.loop-i.i + 1) (in_order (calls_in c.args.words.now) l) (held c.args.words.now at.low at.high at.places))
+    sym (ap (λ (l : List ℕ). replay (c.loop-i.i + 1) (in_order (calls_in c.args.words.now) l) (held c.args.words.now at.low at.high at.places.now))
     (drop_of_length-le ks end)) ∙ c.loop-i.invariant.left

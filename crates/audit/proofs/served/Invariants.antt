@@ -10,8 +10,8 @@ invariant-loop-i l =
       order : l.labels.low ≤ l.labels.high;
       low : 64 ≤ l.labels.low + l.i;
       high : l.labels.high ≤ 64 + l.i;
-      holds : Holds (length l.words / 7) l.labels.places;
+      holds : Holds (length l.words / 7) l.labels.places.now;
       first : l.i + first_misplaced (in_order (calls_in l.words) (drop l.i l.order)) ≡ l.misplaced;
-      left : replay (l.i + 1) (in_order (calls_in l.words) (drop l.i l.order)) (held l.words l.labels.low l.labels.high l.labels.places)
+      left : replay (l.i + 1) (in_order (calls_in l.words) (drop l.i l.order)) (held l.words l.labels.low l.labels.high l.labels.places.now)
           ≡ replay 1 (in_order (calls_in l.words) l.order) [];
     }

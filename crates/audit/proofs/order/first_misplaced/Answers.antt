@@ -25,12 +25,12 @@ loop-i-preserved c =
     let rest = in_order (calls_in ws) (drop c.loop-i.i ks) in
     let back : i + 1 ≡ c.loop-i.i = omega arith in
     let next : in_order (calls_in ws) (drop i ks) ≡ one ∷ rest =
-        next-call ws ks c.requires i (omega arith) ∙ (λ j. sym c.call_at-c.ensures j ∷ in_order (calls_in ws) (drop (back j) ks)) in
+    next-call ws ks c.requires i (omega arith) ∙ (λ j. sym c.call_at-c.ensures j ∷ in_order (calls_in ws) (drop (back j) ks)) in
     let turn : first_misplaced (in_order (calls_in ws) (drop i ks)) ≡ first_misplaced (one ∷ rest) = ap first_misplaced next in
     record {
       least = c.min-least.ensures ∙ ap (λ (x : ℕ). min x one.end) inv.least ∙ sym (ap least_end next);
       first = elim c.if-least-c.branch [
-        then-least-c w ↦ omega (arith, misplaced_here one rest fits (omega arith))
-      | else-least-c w ↦ omega (arith, misplaced_behind one rest fits (omega arith))
+        | then-least-c w ↦ omega (arith, misplaced_here one rest fits (omega arith))
+        | else-least-c w ↦ omega (arith, misplaced_behind one rest fits (omega arith))
       ];
     }

@@ -22,12 +22,12 @@ returns-then-not-contains c =
     let is : c.contains.result ≡ from1 n (get_or ks j 0) = search rules in
     let back : j + 1 ≡ c.loop-i.i = omega arith in
     not_rearranged ks n j len (elim c.then-not-contains.branch [
-      then-not-contains-via-then-not-contains w ↦ passes_turn (from1 n) differ ks j 0 false _ less (sym is ∙ w.if-not-contains.true) refl
-    | then-not-contains-via-else-not-contains+then-marked w ↦
-        let known = within n (get_or ks j 0) (sym is ∙ w.if-not-contains.false) in
-        let listed : Listed c.loop-i.listed (drop (j + 1) ks) = subst (λ (m : ℕ). Listed c.loop-i.listed (drop m ks)) (sym back) c.loop-i.invariant.marks in
-        passes_turn (from1 n) differ ks j 0 true false less (sym is ∙ w.if-not-contains.false)
-        (not-true _ (sym (w.marked.ensures ∙ listed (get_or ks j 0) known.0 (omega arith)) ∙ w.if-marked.true))
+      | then-not-contains-via-then-not-contains w ↦ passes_turn (from1 n) differ ks j 0 false _ less (sym is ∙ w.if-not-contains.true) refl
+      | then-not-contains-via-else-not-contains+then-marked w ↦
+          let known = within n (get_or ks j 0) (sym is ∙ w.if-not-contains.false) in
+          let listed : Listed c.loop-i.listed (drop (j + 1) ks) = subst (λ (m : ℕ). Listed c.loop-i.listed (drop m ks)) (sym back) c.loop-i.invariant.marks in
+          passes_turn (from1 n) differ ks j 0 true false less (sym is ∙ w.if-not-contains.false)
+          (not-true _ (sym (w.marked.ensures ∙ listed (get_or ks j 0) known.0 (omega arith)) ∙ w.if-marked.true))
     ])
 
 pub loop-i-preserved : goal.loop-i-preserved

@@ -32,7 +32,7 @@ module _ (ws : List ℕ) (c : Finished) (low high : ℕ) (due : Given) (low' hig
 pub returns-then-self : goal.returns-then-self
 returns-then-self c =
     let q = c.args.self.now in
-    serves c.args.words.now c.args.c q.low q.high _ q.low q.high q.places
+    serves c.args.words.now c.args.c q.low q.high _ q.low q.high q.places.now
     (record { ends = omega arith; left = omega arith; right = omega arith }) c.requires.3 _ 3 0
     (pop_none _ q.low q.high c.args.c.side c.if-self.true) (plain c.args.c.answer c.args.c.label 3 (λ e. omega arith))
 
@@ -42,16 +42,16 @@ returns c =
     let one = c.args.c in
     let q = c.args.self.now in
     let len = c.requires.3.size in
-    let more = length-map q.places (label_at ws) in
+    let more = length-map q.places.now (label_at ws) in
     let some = c.if-self.false in
     elim c.if-c-eq1.branch [
-      then-c-eq1 w ↦ rw w.self-is (popped ws one q.low q.high _ q.low (q.high - 1) q.places
+      then-c-eq1 w ↦ rw w.self-is (popped ws one q.low q.high _ q.low (q.high - 1) q.places.now
           (record { ends = omega arith; left = omega arith; right = omega arith }) c.requires.3
           c.call_at-d.result _ (q.high - 1) c.call_at-d.ensures (c.from.ensures ∙ w.k-is)
           (pop_right _ q.low q.high one.side (q.high - 1) _ w.if-c-eq1.true (omega arith) (omega arith) (omega arith)))
-    | else-c-eq1 w ↦ rw w.self-is (popped ws one q.low q.high _ (q.low + 1) q.high q.places
+    | else-c-eq1 w ↦ rw w.self-is (popped ws one q.low q.high _ (q.low + 1) q.high q.places.now
           (record { ends = omega arith; left = omega arith; right = omega arith }) c.requires.3
           c.call_at-d.result _ q.low c.call_at-d.ensures
-          (c.from.ensures ∙ w.k-is ∙ (let z : q.low + 1 - 1 ≡ q.low = omega arith in ap (λ (i : ℕ). get_or q.places i 0) z))
+          (c.from.ensures ∙ w.k-is ∙ (let z : q.low + 1 - 1 ≡ q.low = omega arith in ap (λ (i : ℕ). get_or q.places.now i 0) z))
           (pop_left _ q.low q.high one.side _ w.if-c-eq1.false (omega arith) (omega arith)))
     ]

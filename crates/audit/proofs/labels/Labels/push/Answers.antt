@@ -10,10 +10,10 @@ returns-then-side-eq1 c =
     let q = c.args.self.now in
     let len = c.requires.4 in
     record {
-      queue_is = λ f. ap (slice q.low (q.high + 1)) (map-set f q.places q.high c.args.k)
-          ∙ push_right (map f q.places) q.low q.high (f c.args.k) c.args.side c.if-side-eq1.true c.requires.1 (let z = length-map q.places f in omega arith);
+      queue_is = λ f. ap (slice q.low (q.high + 1)) (map-set f q.places.now q.high c.args.k)
+          ∙ push_right (map f q.places.now) q.low q.high (f c.args.k) c.args.side c.if-side-eq1.true c.requires.1 (let z = length-map q.places.now f in omega arith);
       moved = record { ends = omega arith; left = omega arith; right = omega arith };
-      holds = λ n. holds_more n q.places q.high c.args.k (omega arith);
+      holds = λ n. holds_more n q.places.now q.high c.args.k (omega arith);
     }
 
 pub returns-else-side-eq1 : goal.returns-else-side-eq1
@@ -21,9 +21,9 @@ returns-else-side-eq1 c =
     let q = c.args.self.now in
     let len = c.requires.4 in
     record {
-      queue_is = λ f. ap (slice (q.low - 1) q.high) (map-set f q.places (q.low - 1) c.args.k)
-          ∙ push_left (map f q.places) q.low q.high (f c.args.k) c.args.side (q.low - 1) c.if-side-eq1.false (omega arith) c.requires.1
-          (let z = length-map q.places f in omega arith);
+      queue_is = λ f. ap (slice (q.low - 1) q.high) (map-set f q.places.now (q.low - 1) c.args.k)
+          ∙ push_left (map f q.places.now) q.low q.high (f c.args.k) c.args.side (q.low - 1) c.if-side-eq1.false (omega arith) c.requires.1
+          (let z = length-map q.places.now f in omega arith);
       moved = record { ends = omega arith; left = omega arith; right = omega arith };
-      holds = λ n. holds_more n q.places (q.low - 1) c.args.k (omega arith);
+      holds = λ n. holds_more n q.places.now (q.low - 1) c.args.k (omega arith);
     }

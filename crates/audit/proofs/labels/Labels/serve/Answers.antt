@@ -14,8 +14,8 @@ returns-then-c-eq0 c =
     let d = get_or (calls_in ws) c.args.k nobody in
     let q = c.args.self.now in
     let after = c.push.new.self in
-    subst (λ (x : Finished). x.kind ≡ 0 → Put q.low q.high x.side c.args.k after.low after.high q.places after.places
-    → Serves ws d q.low q.high (gives d (held ws q.low q.high q.places)) (eqb x.answer 2) after.low after.high after.places)
+    subst (λ (x : Finished). x.kind ≡ 0 → Put q.low q.high x.side c.args.k after.low after.high q.places.now after.places.now
+    → Serves ws d q.low q.high (gives d (held ws q.low q.high q.places.now)) (eqb x.answer 2) after.low after.high after.places.now)
     (sym c.call_at-c.ensures)
     (λ push put. rw (eq-eqb d.kind 0 push) (record {
       same_is = plain d.answer d.label 2 (λ e. omega arith);
@@ -31,5 +31,5 @@ returns c =
     let q = c.args.self.now in
     let one = c.call_at-c in
     let after = c.pop.new.self in
-    subst (λ (x : Finished). Serves ws x q.low q.high (gives x (held ws q.low q.high q.places)) c.pop.result after.low after.high after.places) one.ensures
+    subst (λ (x : Finished). Serves ws x q.low q.high (gives x (held ws q.low q.high q.places.now)) c.pop.result after.low after.high after.places.now) one.ensures
     (rw (ne_eqb one.result.kind 0 c.if-c-eq0.false) c.pop.ensures)
