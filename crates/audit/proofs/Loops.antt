@@ -2,22 +2,13 @@
 use mathlib.Core.{Bool.{Bool, true, false, ◌&&◌}, List.{List, [], ◌∷◌}, Path.{◌≡◌, refl, sym, ap, ◌∙◌}}
 use Prim.Native.Nat.{ℕ, zero, suc, ◌+◌, ◌<◌}
 use native.Mathlib.{Numerals.add-one, Omega.arith}
-use lib.{ListN.{length, get_or, drop, drop_of_length-le}, Seq.drop-cons}
-use Rattle.std.specs.List.{list_all, range_with_len}
+use lib.{ListN.{length, get_or, drop}, Seq.drop-cons}
 use Rattle.model.proofs.Tests.Truth.{and-true}
 use Rattle.audit_model.specs.Audit.{all_of, pairwise}
 
 module _ {A : Type 0} where
   pub drop_next : (l : List A) (i : ℕ) (d : A) → i < length l → drop i l ≡ get_or l i d ∷ drop (i + 1) l
   drop_next l i d h = rw (add-one, drop-cons l i d)
-
-  -- A test of what is left of a list, as a test at each index from i on.
-  pub by_index : (test : ℕ → Bool) (p : List A → Bool) (l : List A) → p [] ≡ true
-      → ((i : ℕ) → i < length l → p (drop i l) ≡ test i && p (drop (i + 1) l))
-      → (i n : ℕ) → i + n ≡ length l → list_all test (range_with_len i n) ≡ p (drop i l)
-  by_index test p l none turn i zero e = sym (ap p (drop_of_length-le l (omega arith)) ∙ none)
-  by_index test p l none turn i (suc n) e =
-      ap (λ (b : Bool). test i && b) (by_index test p l none turn (i + 1) n (omega arith)) ∙ sym (turn i (omega arith))
 
   module _ (f : A → Bool) where
     pub all-at : (l : List A) (i : ℕ) (d : A) → i < length l → all_of f l ≡ true → f (get_or l i d) ≡ true
@@ -32,23 +23,22 @@ module _ {A : Type 0} where
       abbrev pub passes : List A → Bool
       passes l = all_of f l && pairwise r l
 
-      first_passes : (x : A) (l : List A) → passes (x ∷ l) ≡ f x && all_of (r x) l && passes l
+      first_passes : (x : A) (l : List A) → passes (x ∷ l) ≡ f x && (all_of (r x) l && passes l)
       first_passes x l = regroup (f x) (all_of f l) (all_of (r x) l) (pairwise r l)
         where
-          regroup : (a b c d : Bool) → a && b && (c && d) ≡ a && c && (b && d)
+          regroup : (a b c d : Bool) → a && b && (c && d) ≡ a && (c && (b && d))
           regroup false b c d = refl
-          regroup true true true d = refl
-          regroup true true false d = refl
+          regroup true true c d = refl
           regroup true false true d = refl
           regroup true false false d = refl
 
       pub passes_turn : (l : List A) (i : ℕ) (d : A) (a b : Bool) → i < length l → f (get_or l i d) ≡ a
-          → all_of (r (get_or l i d)) (drop (i + 1) l) ≡ b → passes (drop i l) ≡ a && b && passes (drop (i + 1) l)
+          → all_of (r (get_or l i d)) (drop (i + 1) l) ≡ b → passes (drop i l) ≡ a && (b && passes (drop (i + 1) l))
       passes_turn l i d a b h p q =
-          ap passes (drop_next l i d h) ∙ first_passes (get_or l i d) (drop (i + 1) l) ∙ (λ j. p j && q j && passes (drop (i + 1) l))
+          ap passes (drop_next l i d h) ∙ first_passes (get_or l i d) (drop (i + 1) l) ∙ (λ j. p j && (q j && passes (drop (i + 1) l)))
 
       pub passes_from : (l : List A) (i : ℕ) → passes l ≡ true → passes (drop i l) ≡ true
       passes_from l zero e = e
       passes_from [] (suc i) e = refl
       passes_from (x ∷ l) (suc i) e =
-          passes_from l i (and-true (f x && all_of (r x) l) (passes l) (sym (first_passes x l) ∙ e)).1
+          passes_from l i (and-true (all_of (r x) l) (passes l) (and-true (f x) (all_of (r x) l && passes l) (sym (first_passes x l) ∙ e)).1).1

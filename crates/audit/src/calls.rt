@@ -21,6 +21,7 @@ pub fn call_at(words: &[u64], i: usize) -> Finished
     }
 }
 
+#[tactic(auto, unfolding(audit_model::specs::Audit::well_formed))]
 fn well_formed(c: Finished) -> bool
     ensures { result ≡ well_formed c }
 {
@@ -28,12 +29,15 @@ fn well_formed(c: Finished) -> bool
 }
 
 // No event of one is an event of the other.
+#[tactic(auto, unfolding(audit_model::specs::Audit::apart))]
 fn apart(c: Finished, d: Finished) -> bool
     ensures { result ≡ meaning.apart c d }
 {
     (c.start != d.start) & (c.start != d.end) & (c.end != d.start) & (c.end != d.end)
 }
 
+// Loops that are left at the first call that fails: as `all` over the indices they were tried and are slower, this one with 32,710
+// instructions at 64 calls where it has 30,864, and that of `accepted` with 869 bytes of code for `zc_audit_words` where it has 797.
 fn apart_from(words: &[u64], at: usize, c: Finished) -> bool
     requires { at ≤ length words.now / 7 }
     ensures { result ≡ all_of (meaning.apart c) (drop at (calls_in words.now)) }
@@ -51,9 +55,14 @@ pub fn accepted(words: &[u64]) -> bool
     ensures { result ≡ meaning.accepted (calls_in words.now) }
 {
     let n = words.len() / 7;
-    n <= 64
-        && (0..n).all(|i| {
-            let c = call_at(words, i);
-            well_formed(c) && apart_from(words, i + 1, c)
-        })
+    if 64 < n {
+        return false;
+    }
+    for i in 0..n {
+        let c = call_at(words, i);
+        if !well_formed(c) || !apart_from(words, i + 1, c) {
+            return false;
+        }
+    }
+    true
 }

@@ -57,27 +57,11 @@ pub fn audit_words(words: &[u64], order: &[u64]) -> Verdict
     served(words, order, misplaced)
 }
 
-fn reply(v: Verdict) -> VerdictReply
-    ensures { result ≡ verdict_reply v }
-{
-    match v {
-        Verdict::Refused(why) => VerdictReply {
-            code: why,
-            position: 0,
-        },
-        Verdict::Failed(position) => VerdictReply { code: 1, position },
-        Verdict::Passed => VerdictReply {
-            code: 0,
-            position: 0,
-        },
-    }
-}
-
 // The verdict on no call.
 fn of_none(order: &[u64]) -> Verdict
     ensures { result ≡ verdict [] order.now }
 {
-    if order.len() == 0 {
+    if order.is_empty() {
         return Verdict::Passed;
     }
     Verdict::Failed(0)
@@ -89,9 +73,7 @@ pub extern "C" fn zc_audit_words(words: &[u64], order: &[u64]) -> VerdictReply
 {
     // Told before registers are saved and the queue is cleared.
     if words.len() < 7 {
-        let v = of_none(order);
-        return reply(v);
+        return VerdictReply::from(of_none(order));
     }
-    let v = audit_words(words, order);
-    reply(v)
+    VerdictReply::from(audit_words(words, order))
 }

@@ -1,14 +1,12 @@
-use Rattle.std.proofs.Common.{rules, arith, ◌≡◌, ◌∙◌, sym, ap, refl, true, ◌+◌, ◌-◌, ◌/◌, ◌≤◌, ◌<◌, ℕ, List, [], ◌∷◌, length, get_or, drop}
+use Rattle.std.proofs.Common.{arith, ◌≡◌, ◌∙◌, sym, ap, refl, true, ◌+◌, ◌-◌, ◌/◌, ◌≤◌, ◌<◌, ℕ, List, ◌∷◌, length, get_or, drop}
 use mathlib.Core.List.{map}
-use borrow.Author.Tests.{not-false, not-true}
 use lib.{ListN.{drop_of_length-le, replicate}, Seq.slice_empty}
 use Rattle.audit_model.specs.{declared.{Finished.Finished, Verdict.Verdict, Verdict.TheVariants.Failed}, LentHistory.calls_in}
 use Rattle.model.specs.Sound.{from1}
 use Rattle.audit_model.specs.Audit.{all_of, in_order, nobody, replay}
-use Rattle.audit.specs.{FirstMisplaced.first_misplaced, LabelQueue.{Holds, held, label_at}}
+use Rattle.audit.specs.{FirstMisplaced.first_misplaced, LabelQueue.{held, label_at}}
 use Rattle.audit.proofs.{Buffer.zeros_hold, Misplaced.misplaced_within, WordsRead.{next-call, number-known}}
 use Rattle.audit.proofs.Turn.{fails, goes_on, next_misplaced, stops}
-use Rattle.audit.specs.declared.labels.Labels.{Labels}
 use Rattle.audit.proofs.served.Goals as goal
 
 pub loop-i-init : goal.loop-i-init

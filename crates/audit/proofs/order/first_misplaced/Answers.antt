@@ -1,8 +1,8 @@
-use Rattle.std.proofs.Common.{rules, arith, ◌≡◌, ◌∙◌, sym, ap, ◌+◌, ◌-◌, ◌/◌, ◌≤◌, ℕ, List, ◌∷◌, length, get_or, drop, min}
+use Rattle.std.proofs.Common.{arith, ◌≡◌, ◌∙◌, sym, ap, ◌+◌, ◌-◌, ◌≤◌, ℕ, List, ◌∷◌, length, drop, min}
 use Rattle.std.proofs.Math.Seq.{drop-length}
-use Rattle.audit_model.specs.{declared.Finished.Finished, Audit.in_order, LentHistory.calls_in}
+use Rattle.audit_model.specs.{Audit.in_order, LentHistory.calls_in}
 use Rattle.audit.specs.FirstMisplaced.{first_misplaced}
-use Rattle.audit.proofs.{Misplaced.{misplaced_behind, misplaced_here, least_end}, WordsRead.{next-call, number-known}}
+use Rattle.audit.proofs.{Misplaced.{misplaced_behind, misplaced_here, least_end}, WordsRead.{next-call}}
 use Rattle.audit.proofs.order.first_misplaced.Goals as goal
 use Rattle.audit.proofs.order.first_misplaced.Goals.{then-least-c, else-least-c}
 

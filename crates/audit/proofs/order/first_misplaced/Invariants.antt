@@ -1,5 +1,5 @@
 -- Of the positions from i on: the least answer event, and the first that stands too early.
-use Rattle.std.proofs.Common.{◌≡◌, ◌≤◌, ◌+◌, drop}
+use Rattle.std.proofs.Common.{◌≡◌, ◌+◌, drop}
 use Rattle.audit_model.specs.{Audit.in_order, LentHistory.calls_in}
 use Rattle.audit.specs.FirstMisplaced.{first_misplaced}
 use Rattle.audit.proofs.Misplaced.{least_end}

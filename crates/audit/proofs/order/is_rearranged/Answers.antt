@@ -1,9 +1,8 @@
-use Rattle.std.proofs.Common.{rules, arith, ◌≡◌, ◌∙◌, sym, ap, refl, subst, ◌+◌, ◌-◌, ◌≤◌, ◌<◌, ℕ, List, Bool, true, false, length, get_or, drop}
-use mathlib.Core.Bool.{◌&&◌, not}
-use lib.ListN.{drop_of_length-le, length-set}
+use Rattle.std.proofs.Common.{rules, arith, ◌≡◌, ◌∙◌, sym, ap, refl, subst, ◌+◌, ◌-◌, ◌<◌, ℕ, List, true, false, length, get_or, drop}
+use lib.ListN.{length-set}
 use Rattle.model.specs.{Sound.from1, Tables.with_mark}
 use Rattle.audit_model.specs.Audit.{all_of, differ}
-use Rattle.audit.proofs.{Loops.{drop_next, passes, passes_turn}, Listed.{Listed, none-listed, one_more}}
+use Rattle.audit.proofs.{Loops.{drop_next, passes, passes_turn}, Listed.{Listed, one_more}}
 use Rattle.audit.proofs.{Verdicts.{another_length, not_rearranged, same_length}, WordsRead.within}
 use borrow.Author.Tests.{not-false, not-true}
 use Rattle.audit.proofs.order.is_rearranged.Goals as goal
