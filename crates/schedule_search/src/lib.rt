@@ -2,7 +2,7 @@
 #![tactic(auto)]
 
 ghost use mathlib.Core.{Path.◌≡◌, Bool.{cond, false}, List.{[], ◌∷◌}};
-ghost use Rattle.std.specs.Prelude.{◌≤◌, ◌<◌, set};
+ghost use Rattle.std.specs.Prelude.{◌≤◌, ◌<◌, set, is_some};
 ghost use Rattle.model.specs.Tables.{Tables};
 ghost use Rattle.layout.specs.Rows.{records_of, queue_in};
 ghost use Rattle.schedule_model.specs.{Schedules.{ends, both_answered}, Search.ended};
@@ -10,55 +10,44 @@ ghost use Rattle.schedule_search.specs.Sought.{seeking, branch, choice, found_of
 
 mod undo;
 
-/// Whether a schedule was found, its length, and how it ends.
+/// A schedule's length, and how it ends, by the number that C reads.
 #[derive(Clone, Copy)]
 pub struct Found {
-    pub found: bool,
     pub length: u64,
     pub ending: u64,
 }
 
 /// A schedule that ends here, after so many steps, if any schedule will do.
-fn ended(free: bool, made: u64, ending: u64) -> Found
+fn ended(free: bool, made: u64, ending: u64) -> Option<Found>
     ensures { result ≡ found_of made (ended free (ends ending)) }
 {
     if free {
-        return Found {
-            found: true,
+        Some(Found {
             length: made,
             ending,
-        };
-    }
-    none()
-}
-
-fn none() -> Found
-    ensures { result ≡ record { found = false; length = 0; ending = 0 } }
-{
-    Found {
-        found: false,
-        length: 0,
-        ending: 0,
+        })
+    } else {
+        None
     }
 }
 
-/// How a schedule ends here; 3: it goes on.
-fn ending(stopped: bool, pair: &[[u64; layout::RECORD_WORDS]; 2], left: u64) -> u64
+/// How a schedule ends here, if it doesn't go on.
+fn ending(stopped: bool, pair: &[[u64; layout::RECORD_WORDS]; 2], left: u64) -> Option<u64>
     ensures { (q : Tables) → result ≡ ends_here stopped (both_answered (record { tables = q; records = records_of pair.now })) left }
 {
     if stopped {
-        return 2;
+        return Some(2);
     }
     let a = layout::call_at(pair, 0);
     let b = layout::call_at(pair, 1);
-    if !(!(a.place == 0) | !(b.place == 0)) {
-        return 0;
+    if (a.place == 0) & (b.place == 0) {
+        return Some(0);
     }
-    if left == 0 { 1 } else { 3 }
+    if left == 0 { Some(1) } else { None }
 }
 
-/// Whether task t may be next: 0 not, since it is idle or the given list forbids it; 1 bound by the rest of the list;
-/// 2 any schedule that goes on with it will do.
+/// Whether task t may be next: not where it is idle or the given list forbids it. If so, whether any schedule that goes on with
+/// it will do; else the rest of the list binds.
 fn choose(
     t: u64,
     pair: &[[u64; layout::RECORD_WORDS]; 2],
@@ -66,33 +55,27 @@ fn choose(
     free: bool,
     len: u64,
     given: &[u64],
-) -> u64
+) -> Option<bool>
     requires { left ≤ 48 }
     ensures { (q : Tables)
         → result ≡ choice given.now len left free (record { tables = q; records = records_of pair.now }) t }
 {
     let r = layout::call_at(pair, t as usize);
     if r.place == 0 {
-        return 0;
+        return None;
     }
-    if free {
-        return 2;
-    }
-    if len <= 48 - left {
-        return 2;
+    if free || len <= 48 - left {
+        return Some(true);
     }
     let least = table::word_at(given, 49 - left);
-    if t < least {
-        return 0;
-    }
-    if t == least { 1 } else { 2 }
+    if t < least { None } else { Some(t != least) }
 }
 
 /// A step of what was found is stored on the way back.
-fn note(f: Found, given: &mut [u64], at: u64, t: u64)
-    ensures { given.new ≡ cond f.found (set given.old at t) given.old }
+fn note(f: Option<Found>, given: &mut [u64], at: u64, t: u64)
+    ensures { given.new ≡ cond (is_some f) (set given.old at t) given.old }
 {
-    if f.found {
+    if f.is_some() {
         table::put_word(given, at, t);
     }
 }
@@ -109,7 +92,7 @@ pub fn search(
     labels: &mut [u32],
     marks: &mut [u64],
     next: &mut [u64],
-) -> Found
+) -> Option<Found>
     ensures { ◌≡◌ {A = Sought}
         (record {
           found = result;
@@ -145,7 +128,7 @@ fn seek(
     labels: &mut [u32],
     marks: &mut [u64],
     next: &mut [u64],
-) -> Found
+) -> Option<Found>
     requires { left ≤ 48 }
     ensures { ◌≡◌ {A = Sought}
         (record {
@@ -159,21 +142,18 @@ fn seek(
         let ws = given.old in
         sought left ws (under stopped free (seeking ws len left free q)) q) }
 {
-    let e = ending(stopped, pair, left);
-    if e != 3 {
+    if let Some(e) = ending(stopped, pair, left) {
         return ended(free, 48 - left, e);
     }
-    let mut t: u64 = 0;
-    while t < 2 {
+    for t in 0..2 {
         let f = through(
             t, control, pair, left, free, len, given, lefts, rights, labels, marks, next,
         );
-        if f.found {
+        if f.is_some() {
             return f;
         }
-        t += 1;
     }
-    none()
+    None
 }
 
 /// Those that begin with task t, if it is busy and the given list lets it: steps it, goes on, and puts back what the step
@@ -192,7 +172,7 @@ fn through(
     labels: &mut [u32],
     marks: &mut [u64],
     next: &mut [u64],
-) -> Found
+) -> Option<Found>
     requires { (t < 2) × ((0 < left) × (left ≤ 48)) }
     ensures { ◌≡◌ {A = Sought}
         (record {
@@ -206,10 +186,9 @@ fn through(
         let ws = given.old in
         sought left ws (branch ws len left free q t) q) }
 {
-    let c = choose(t, pair, left, free, len, given);
-    if c == 0 {
-        return none();
-    }
+    let Some(any) = choose(t, pair, left, free, len, given) else {
+        return None;
+    };
     let i = t as usize;
     let k = undo::step(i, control, pair, lefts, rights, labels, marks, next);
     let f = seek(
@@ -217,7 +196,7 @@ fn through(
         control,
         pair,
         left - 1,
-        c == 2,
+        any,
         len,
         given,
         lefts,
@@ -228,10 +207,5 @@ fn through(
     );
     undo::back(k, i, control, pair, lefts, rights, labels, marks, next);
     note(f, given, 49 - left, t);
-    // Made anew: of f as it is the padding is copied too, by moves that overlap, which takes a tenth of the time or more.
-    Found {
-        found: f.found,
-        length: f.length,
-        ending: f.ending,
-    }
+    f
 }
