@@ -1,5 +1,5 @@
 -- It ends here, or goes on with one task after the other; a task is passed over, or stepped. One induction on the steps to go.
-use Rattle.std.proofs.Common.{arith, rules, refl, ℕ}
+use Rattle.std.proofs.Common.{arith, rules, refl, ◌<◌, ℕ}
 use Rattle.model.specs.Tables.{Queue, tables_of}
 use Rattle.layout.specs.Rows.{control_of, queue_in}
 use Rattle.schedule_search.proofs.Seeking.{goes_on_lem, ends-here, all, turn_found, turn_on, turns-over}
@@ -22,7 +22,7 @@ pub seek-through-f-requires : goal.seek-through-f-requires
 seek-through-f-requires t c =
     let a = c.args in
     let tables = tables_of (control_of a.control.now) a.lefts.now a.rights.now a.labels.now a.marks.now a.next.now in
-    let some = (goes_on_lem _ _ _ (c.in_default.ensures tables)).some in
+    let some : 0 < a.left = (goes_on_lem _ _ _ (c.in_default.ensures tables)).some in
     (omega (arith, c.decreases, some), (c.loop-t-test.true, (some, c.requires)))
 
 pub seek-returns-then-is_some : goal.seek-returns-then-is_some
