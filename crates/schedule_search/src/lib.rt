@@ -10,6 +10,8 @@ ghost use Rattle.schedule_search.specs.Sought.{seeking, branch, choice, found_of
 
 mod undo;
 
+use undo::Rows;
+
 /// A schedule's length, and how it ends, by the number that C reads.
 #[derive(Clone, Copy)]
 pub struct Found {
@@ -103,12 +105,12 @@ pub fn search(
         let ws = given.old in
         sought 48 ws (seeking ws len 48 false q) q) }
 {
-    let mut words = control;
-    let mut pair = [a, b];
-    let stopped = false;
-    let free = false;
+    let mut rows = Rows {
+        control,
+        pair: [a, b],
+    };
     seek(
-        stopped, &mut words, &mut pair, 48, free, len, given, lefts, rights, labels, marks, next,
+        false, &mut rows, 48, false, len, given, lefts, rights, labels, marks, next,
     )
 }
 
@@ -117,8 +119,7 @@ pub fn search(
 #[cycle(seek_through)]
 fn seek(
     stopped: bool,
-    control: &mut [u64; layout::CONTROL_WORDS],
-    pair: &mut [[u64; layout::RECORD_WORDS]; 2],
+    rows: &mut Rows,
     left: u64,
     free: bool,
     len: u64,
@@ -134,20 +135,20 @@ fn seek(
         (record {
           found = result;
           memory = given.new;
-          queue = queue_in control.new pair.new
+          queue = queue_in rows.new.control rows.new.pair
               lefts.new rights.new labels.new marks.new next.new;
         })
-        (let q = queue_in control.old pair.old
+        (let q = queue_in rows.old.control rows.old.pair
         lefts.old rights.old labels.old marks.old next.old in
         let ws = given.old in
         sought left ws (under stopped free (seeking ws len left free q)) q) }
 {
-    if let Some(e) = ending(stopped, pair, left) {
+    if let Some(e) = ending(stopped, &rows.pair, left) {
         return ended(free, 48 - left, e);
     }
     for t in 0..2 {
         let f = through(
-            t, control, pair, left, free, len, given, lefts, rights, labels, marks, next,
+            t, rows, left, free, len, given, lefts, rights, labels, marks, next,
         );
         if f.is_some() {
             return f;
@@ -161,8 +162,7 @@ fn seek(
 #[cycle(seek_through)]
 fn through(
     t: u64,
-    control: &mut [u64; layout::CONTROL_WORDS],
-    pair: &mut [[u64; layout::RECORD_WORDS]; 2],
+    rows: &mut Rows,
     left: u64,
     free: bool,
     len: u64,
@@ -178,23 +178,22 @@ fn through(
         (record {
           found = result;
           memory = given.new;
-          queue = queue_in control.new pair.new
+          queue = queue_in rows.new.control rows.new.pair
               lefts.new rights.new labels.new marks.new next.new;
         })
-        (let q = queue_in control.old pair.old
+        (let q = queue_in rows.old.control rows.old.pair
         lefts.old rights.old labels.old marks.old next.old in
         let ws = given.old in
         sought left ws (branch ws len left free q t) q) }
 {
-    let Some(any) = choose(t, pair, left, free, len, given) else {
+    let Some(any) = choose(t, &rows.pair, left, free, len, given) else {
         return None;
     };
     let i = t as usize;
-    let k = undo::step(i, control, pair, lefts, rights, labels, marks, next);
+    let k = undo::step(i, rows, lefts, rights, labels, marks, next);
     let f = seek(
         k.stopped,
-        control,
-        pair,
+        rows,
         left - 1,
         any,
         len,
@@ -205,7 +204,7 @@ fn through(
         marks,
         next,
     );
-    undo::back(k, i, control, pair, lefts, rights, labels, marks, next);
+    undo::back(k, i, rows, lefts, rights, labels, marks, next);
     note(f, given, 49 - left, t);
     f
 }

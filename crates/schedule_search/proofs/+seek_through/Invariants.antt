@@ -13,6 +13,6 @@ decreases-through l = 2 * l.left - 1
 
 abbrev pub invariant-seek-loop-t : goal.invariant-seek-loop-t
 invariant-seek-loop-t l =
-    let q = queue_in l.fn.control l.fn.pair l.fn.lefts l.fn.rights l.fn.labels l.fn.marks l.fn.next in
-    Turn l.fn.given l.given l.len l.free q (queue_in l.control l.pair l.lefts l.rights l.labels l.marks l.next) l.left l.t
+    let q = queue_in l.fn.rows.control l.fn.rows.pair l.fn.lefts l.fn.rights l.fn.labels l.fn.marks l.fn.next in
+    Turn l.fn.given l.given l.len l.free q (queue_in l.rows.control l.rows.pair l.lefts l.rights l.labels l.marks l.next) l.left l.t
     (under l.stopped l.free (seeking l.fn.given l.len l.left l.free q))
