@@ -1,5 +1,5 @@
 -- The row is there, or there is no such task.
-use Rattle.std.proofs.Common.{rules, arith, ◌≡◌, ◌≤◌, sym, ap, ◌∙◌, List, [], ℕ, length, get_or}
+use Rattle.std.proofs.Common.{rules, arith, ◌≡◌, ◌≤◌, sym, ap, ◌∙◌, [], length, get_or}
 use lib.ListN.{get_or-eq_default}
 use Rattle.layout.{specs.Rows.{call_of, record_of, records_of}, proofs.Rows.{length_records, record_read}}
 use Rattle.schedule.proofs.row_at.Goals as goal
