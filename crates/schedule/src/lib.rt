@@ -11,7 +11,7 @@ ghost use Rattle.schedule_search.specs.Sought.{seeking};
 ghost use Rattle.schedule.specs.Answered.{refusal_after, Begins, Answered, answered};
 
 use model::{Call, Control};
-use schedule_model::ScheduleReply;
+use schedule_model::{Ending, ScheduleReply};
 use sound::Lengths;
 use walk::Tally;
 
@@ -134,7 +134,7 @@ fn hand_out(
         }
         None => ScheduleReply {
             code: 0,
-            ending: 3,
+            ending: u64::from(Ending::NoMore),
             length: 0,
         },
     }

@@ -7,6 +7,7 @@ use Rattle.std.specs.Prelude.{Option, Some, None, is_some}
 use Rattle.model.{specs.Tables.{Queue, tables_of}, proofs.Tests.Truth.not_both}
 use Rattle.schedule_model.specs.{Schedules.{ends, both_answered}, Next.{Next, given, no_more}}
 use Rattle.schedule_model.specs.Search.{ended, or_else, frees, tried, seek_by}
+use Rattle.schedule_model.specs.{declared.Ending.Ending, declared.Ending.TheVariants.{Answered, Cut, Refused}, Endings.number_of}
 use Rattle.schedule_search.specs.{declared.Found.Found, Stepped.moved, Sought.under}
 use Rattle.schedule_search.specs.Sought.{seeking, branch, found_of, written, Sought, sought, ends_here}
 
@@ -61,19 +62,20 @@ module _ (ws : List ℕ) (len : ℕ) (free : Bool) (q : Queue) where
   over (suc n) e = rw e refl
 
   -- The schedule ends, as the code finds it.
-  ends_so : (s : Bool) (left e : ℕ) → Some e ≡ ends_here s (both_answered q) left → under s free (seeking ws len left free q) ≡ ended free (ends e)
+  ends_so : (s : Bool) (left : ℕ) (e : Ending) → Some e ≡ ends_here s (both_answered q) left
+      → under s free (seeking ws len left free q) ≡ ended free (ends (number_of e))
   unfolding seek_by
-  ends_so true left e h = let z : 2 ≡ e = cc in ap (λ (k : ℕ). ended free (ends k)) z
+  ends_so true left e h = let z : Refused ≡ e = cc in ap (λ (k : Ending). ended free (ends (number_of k))) z
   ends_so false left e h = go left (both_answered q) refl h
     where
-      go : (left : ℕ) (x : Bool) → both_answered q ≡ x → Some e ≡ ends_here false x left → seeking ws len left free q ≡ ended free (ends e)
-      go left true y h = let z : 0 ≡ e = cc in over left y ∙ ap (λ (k : ℕ). ended free (ends k)) z
-      go zero false y h = let z : 1 ≡ e = cc in rw y (ap (λ (k : ℕ). ended free (ends k)) z)
+      go : (left : ℕ) (x : Bool) → both_answered q ≡ x → Some e ≡ ends_here false x left → seeking ws len left free q ≡ ended free (ends (number_of e))
+      go left true y h = let z : Answered ≡ e = cc in over left y ∙ ap (λ (k : Ending). ended free (ends (number_of k))) z
+      go zero false y h = let z : Cut ≡ e = cc in rw y (ap (λ (k : Ending). ended free (ends (number_of k))) z)
       go (suc k) false y h = absurd (let z : None ≡ Some e = sym (h ∙ rw (ne_eqb (suc k) 0 (λ x. omega (arith, x)))) in cc)
 
-  pub ends-here : (f : Option Found) (s : Bool) (left e : ℕ) → Some e ≡ ends_here s (both_answered q) left
-      → f ≡ found_of (48 - left) (ended free (ends e)) → handed f ws q ≡ found_by left (under s free (seeking ws len left free q))
-  ends-here f s left e h k = ends_as f left e free ws q (under s free (seeking ws len left free q)) (ends_so s left e h) k
+  pub ends-here : (f : Option Found) (s : Bool) (left : ℕ) (e : Ending) → Some e ≡ ends_here s (both_answered q) left
+      → f ≡ found_of (48 - left) (ended free (ends (number_of e))) → handed f ws q ≡ found_by left (under s free (seeking ws len left free q))
+  ends-here f s left e h k = ends_as f left (number_of e) free ws q (under s free (seeking ws len left free q)) (ends_so s left e h) k
 
   -- What is found from task t on.
   abbrev pub rest : ℕ → ℕ → Next

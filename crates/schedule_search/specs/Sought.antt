@@ -3,7 +3,8 @@ use mathlib.Core.{Bool.{Bool, ◌||◌, not, cond}, List.List}
 use Rattle.std.specs.Prelude.{ℕ, ◌+◌, ◌-◌, Option, Some, None}
 use lib.{Dec.eqb, ListN.length, Seq.sets}
 use Rattle.model.specs.Tables.{Queue}
-use Rattle.schedule_model.specs.{Schedules.{answered_both, was_cut, was_refused, ends, at_work}, Next.{Next, given, no_more}}
+use Rattle.schedule_model.specs.{Schedules.{was_refused, ends, at_work}, Next.{Next, given, no_more}}
+use Rattle.schedule_model.specs.declared.Ending.{Ending, TheVariants.{Answered, Cut, Refused}}
 use Rattle.schedule_model.specs.Search.{ended, skips, frees, tried, seek_by}
 use Rattle.schedule_search.specs.{declared.Found.Found, Stepped.moved}
 
@@ -40,8 +41,8 @@ unfoldable pub sought : ℕ → List ℕ → Next → Queue → Sought
 sought left ws m q = record { found = found_of (48 - left) m; memory = written (49 - left) m ws; queue = q }
 
 -- How a schedule ends: the last step was refused, both calls are answered, no step is left; or it goes on.
-abbrev pub ends_here : Bool → Bool → ℕ → Option ℕ
-ends_here stopped both left = cond stopped (Some was_refused) (cond both (Some answered_both) (cond (eqb left 0) (Some was_cut) None))
+abbrev pub ends_here : Bool → Bool → ℕ → Option Ending
+ends_here stopped both left = cond stopped (Some Refused) (cond both (Some Answered) (cond (eqb left 0) (Some Cut) None))
 
 -- Below a step: nothing, where it was refused; else m.
 abbrev pub under : Bool → Bool → Next → Next

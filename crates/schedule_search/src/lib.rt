@@ -5,11 +5,12 @@ ghost use mathlib.Core.{Path.◌≡◌, Bool.{cond, false}, List.{[], ◌∷◌}
 ghost use Rattle.std.specs.Prelude.{◌≤◌, ◌<◌, set, is_some};
 ghost use Rattle.model.specs.Tables.{Tables};
 ghost use Rattle.layout.specs.Rows.{records_of, queue_in};
-ghost use Rattle.schedule_model.specs.{Schedules.{ends, both_answered}, Search.ended};
+ghost use Rattle.schedule_model.specs.{Endings.number_of, Schedules.{ends, both_answered}, Search.ended};
 ghost use Rattle.schedule_search.specs.Sought.{seeking, branch, choice, found_of, Sought, sought, ends_here, under};
 
 mod undo;
 
+use schedule_model::Ending;
 use undo::Rows;
 
 /// A schedule's length, and how it ends, by the number that C reads.
@@ -20,13 +21,13 @@ pub struct Found {
 }
 
 /// A schedule that ends here, after so many steps, if any schedule will do.
-fn ended(free: bool, made: u64, ending: u64) -> Option<Found>
-    ensures { result ≡ found_of made (ended free (ends ending)) }
+fn ended(free: bool, made: u64, ending: Ending) -> Option<Found>
+    ensures { result ≡ found_of made (ended free (ends (number_of ending))) }
 {
     if free {
         Some(Found {
             length: made,
-            ending,
+            ending: u64::from(ending),
         })
     } else {
         None
@@ -34,18 +35,18 @@ fn ended(free: bool, made: u64, ending: u64) -> Option<Found>
 }
 
 /// How a schedule ends here, if it doesn't go on.
-fn ending(stopped: bool, pair: &[[u64; layout::RECORD_WORDS]; 2], left: u64) -> Option<u64>
+fn ending(stopped: bool, pair: &[[u64; layout::RECORD_WORDS]; 2], left: u64) -> Option<Ending>
     ensures { (q : Tables) → result ≡ ends_here stopped (both_answered (record { tables = q; records = records_of pair.now })) left }
 {
     if stopped {
-        return Some(2);
+        return Some(Ending::Refused);
     }
     let a = layout::call_at(pair, 0);
     let b = layout::call_at(pair, 1);
     if (a.place == 0) & (b.place == 0) {
-        return Some(0);
+        return Some(Ending::Answered);
     }
-    if left == 0 { Some(1) } else { None }
+    if left == 0 { Some(Ending::Cut) } else { None }
 }
 
 /// Whether task t may be next: not where it is idle or the given list forbids it. If so, whether any schedule that goes on with

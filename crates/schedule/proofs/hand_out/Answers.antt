@@ -6,4 +6,4 @@ pub returns-in-Some : goal.returns-in-Some
 returns-in-Some c = next-found _ _ _ _ _ c.memory_length-len.ensures c.in-Some.f c.in-Some.ensures _ c.put_word.ensures
 
 pub returns-in-None : goal.returns-in-None
-returns-in-None c = no-more _ _ _ _ _ c.memory_length-len.ensures c.in-None.ensures
+returns-in-None c = rw c.from.ensures (no-more _ _ _ _ _ c.memory_length-len.ensures c.in-None.ensures)
