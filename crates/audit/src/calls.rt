@@ -25,7 +25,7 @@ pub fn call_at(words: &[u64], i: usize) -> Finished
 fn well_formed(c: Finished) -> bool
     ensures { result ≡ well_formed c }
 {
-    (c.kind <= 1) & (c.side <= 1) & (2 <= c.answer) & (c.answer <= 4) & (c.start < c.end)
+    (c.kind <= 1) & (c.side <= 1) & (2..=4).contains(&c.answer) & (c.start < c.end)
 }
 
 // No event of one is an event of the other.

@@ -117,6 +117,7 @@ pub fn search(
 
 /// The first schedule from here on, with `left` steps to go, after a step that was refused (stopped) or made. free: any will
 /// do, else one after the given list of length `len`, which the steps so far follow.
+// `len` stays while the words of `given` change, so both in one struct would ask of each call to promise that `len` is as before.
 #[cycle(seek_through)]
 fn seek(
     stopped: bool,
