@@ -1,7 +1,6 @@
 //! The claimed order, looked at from its end: whether it names every call once, and its first position that stands too early.
-ghost use mathlib.Core.{Bool.{true, cond}, Path.◌≡◌};
-ghost use Rattle.std.specs.Prelude.{◌/◌, ◌≤◌, min};
-ghost use lib.{Dec.ltb, ListN.length};
+ghost use mathlib.Core.{Bool.true, Path.◌≡◌};
+ghost use Rattle.std.specs.Prelude.{◌/◌, ◌≤◌, length};
 ghost use Rattle.model.specs.Sound.{from1};
 ghost use Rattle.audit_model.specs.{Audit.{all_of, in_order, rearranges}, LentHistory.calls_in};
 ghost use Rattle.audit.specs.FirstMisplaced.{first_misplaced};
