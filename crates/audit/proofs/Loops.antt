@@ -23,7 +23,7 @@ module _ {A : Type 0} where
       abbrev pub passes : List A → Bool
       passes l = all_of f l && pairwise r l
 
-      first_passes : (x : A) (l : List A) → passes (x ∷ l) ≡ f x && (all_of (r x) l && passes l)
+      pub first_passes : (x : A) (l : List A) → passes (x ∷ l) ≡ f x && (all_of (r x) l && passes l)
       first_passes x l = regroup (f x) (all_of f l) (all_of (r x) l) (pairwise r l)
         where
           regroup : (a b c d : Bool) → a && b && (c && d) ≡ a && (c && (b && d))

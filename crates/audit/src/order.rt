@@ -16,8 +16,7 @@ pub fn is_rearranged(order: &[u64], n: usize) -> bool
         return false;
     }
     let mut listed = [0; 1];
-    for i in (0..n).rev() {
-        let k = order[i];
+    for &k in order.iter().rev() {
         if !(1..=n as u64).contains(&k) || table::marked(&listed, k - 1) {
             return false;
         }
