@@ -32,8 +32,8 @@ pub fn first_misplaced(words: &[u64], order: &[u64]) -> usize
 {
     let mut least = u64::MAX;
     let mut first = order.len();
-    for i in (0..order.len()).rev() {
-        let c = calls::call_at(words, (order[i] - 1) as usize);
+    for (i, &k) in order.iter().enumerate().rev() {
+        let c = calls::call_at(words, (k - 1) as usize);
         if least < c.start {
             first = i;
         }

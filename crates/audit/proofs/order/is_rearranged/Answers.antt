@@ -1,5 +1,5 @@
 use Rattle.std.proofs.Common.{rules, arith, ◌≡◌, ◌∙◌, sym, ap, refl, subst, ℕ, List, [], ◌∷◌, ◌++◌, Bool, true, false, length, drop}
-use Rattle.std.proofs.lemmas.List.{append_assoc, append-nil, nil_from_length}
+use Rattle.std.proofs.lemmas.List.{append-nil, nil_from_length}
 use Rattle.std.proofs.Math.Seq.{drop-append_seam}
 use Rattle.std.specs.List.{push}
 use Rattle.std.specs.Slice.Iter.{iter_rest}
@@ -9,7 +9,7 @@ use lib.ListN.{length-set}
 use borrow.Author.Tests.{not-false, not-true}
 use Rattle.model.specs.{Sound.from1}
 use Rattle.audit_model.specs.Audit.{all_of, differ, rearranges}
-use Rattle.audit.proofs.{Loops.{first_passes, passes}, Listed.{Listed, one_more}}
+use Rattle.audit.proofs.{Loops.{first_passes, one_behind, passes}, Listed.{Listed, one_more}}
 use Rattle.audit.proofs.{Verdicts.{another_length, not_rearranged, same_length}, WordsRead.within}
 use Rattle.audit.proofs.order.is_rearranged.Invariants.{Behind}
 use Rattle.audit.proofs.order.is_rearranged.Goals as goal
@@ -18,7 +18,7 @@ use Rattle.audit.proofs.order.is_rearranged.Goals.{then-not-contains-via-then-no
 -- A turn: the last number x of those that are not behind, with those behind.
 module _ (order : List ℕ) (n : ℕ) (rest rest' listed : List ℕ) (x : ℕ) (last : rest ≡ push rest' x) (at : Behind order n rest listed) where
   parts : rest' ++ (x ∷ at.behind) ≡ order
-  parts = sym (append_assoc rest' (x ∷ []) at.behind) ∙ ap (λ (l : List ℕ). l ++ at.behind) (sym last) ∙ at.parts
+  parts = one_behind rest rest' at.behind order x last at.parts
 
   turn : (a b : Bool) → from1 n x ≡ a → all_of (differ x) at.behind ≡ b
       → passes (from1 n) differ (x ∷ at.behind) ≡ a && (b && passes (from1 n) differ at.behind)
