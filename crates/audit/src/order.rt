@@ -25,7 +25,8 @@ pub fn is_rearranged(order: &[u64], n: usize) -> bool
     true
 }
 
-/// By the least answer event behind the position. A count, as `specs/FirstMisplaced.antt` defines it, and no `Option`: `served` goes so far.
+/// By the least answer event behind the position.
+// A count, as `specs/FirstMisplaced.antt` defines it, up to which `served` goes: it would take an `Option` apart again.
 pub fn first_misplaced(words: &[u64], order: &[u64]) -> usize
     requires { all_of (from1 (length words.now / 7)) order.now ≡ true }
     ensures { result ≡ first_misplaced (in_order (calls_in words.now) order.now) }
