@@ -5,7 +5,9 @@ use Rattle.layout.{specs.Rows.{call_of, record_of, records_of}, proofs.Rows.{len
 use Rattle.schedule.proofs.row_at.Goals as goal
 
 pub returns-in-Some : goal.returns-in-Some
-returns-in-Some c = let is : c.in-Some.row.now ≡ get_or c.args.records.now c.args.task [] = search rules in ap record_of is ∙ record_read c.args.records.now c.args.task
+returns-in-Some c =
+    let is : c.in-Some.row.now ≡ get_or c.args.records.now c.args.task [] = search rules in
+    ap record_of is ∙ record_read c.args.records.now c.args.task
 
 pub returns-in-None : goal.returns-in-None
 unfolding record_of call_of

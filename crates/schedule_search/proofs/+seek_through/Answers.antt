@@ -16,7 +16,8 @@ pub seek-loop-t-init : goal.seek-loop-t-init
 seek-loop-t-init t c =
     let a = c.args in
     let q = queue_in a.rows.now.control a.rows.now.pair a.lefts.now a.rights.now a.labels.now a.marks.now a.next.now in
-    record { low = omega arith; memory = refl; queue = refl; found = all a.given.now a.len a.free q a.stopped a.left (goes_on_lem _ _ _ (c.in_default.ensures q.tables)) }
+    let on = goes_on_lem a.stopped _ a.left (c.in_default.ensures q.tables) in
+    record { low = omega arith; memory = refl; queue = refl; found = all a.given.now a.len a.free q a.stopped a.left on }
 
 pub seek-through-f-requires : goal.seek-through-f-requires
 seek-through-f-requires t c =

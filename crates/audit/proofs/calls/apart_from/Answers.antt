@@ -12,11 +12,13 @@ turn ws c d i b less is e = all_turn (apart c) (calls_in ws) i nobody b (omega (
 
 pub returns-then-not-apart : goal.returns-then-not-apart
 returns-then-not-apart c =
-    sym (turn c.args.words.now c.args.c _ c.loop-i.i false c.loop-i-test.true c.call_at-d.ensures (sym c.if-not-apart.true ∙ c.apart.ensures)) ∙ c.loop-i.invariant
+    sym (turn c.args.words.now c.args.c _ c.loop-i.i false c.loop-i-test.true c.call_at-d.ensures (sym c.if-not-apart.true ∙ c.apart.ensures))
+    ∙ c.loop-i.invariant
 
 pub loop-i-preserved : goal.loop-i-preserved
 loop-i-preserved c =
-    sym (turn c.args.words.now c.args.c _ c.loop-i.i true c.loop-i-test.true c.call_at-d.ensures (sym c.if-not-apart.false ∙ c.apart.ensures)) ∙ c.loop-i.invariant
+    sym (turn c.args.words.now c.args.c _ c.loop-i.i true c.loop-i-test.true c.call_at-d.ensures (sym c.if-not-apart.false ∙ c.apart.ensures))
+    ∙ c.loop-i.invariant
 
 pub returns : goal.returns
 returns c =

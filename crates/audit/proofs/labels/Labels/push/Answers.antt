@@ -11,7 +11,8 @@ returns-then-side-eq1 c =
     let len = c.requires.4 in
     record {
       queue_is = λ f. ap (slice q.low (q.high + 1)) (map-set f q.places.now q.high c.args.k)
-          ∙ push_right (map f q.places.now) q.low q.high (f c.args.k) c.args.side c.if-side-eq1.true c.requires.1 (let z = length-map q.places.now f in omega arith);
+          ∙ push_right (map f q.places.now) q.low q.high (f c.args.k) c.args.side c.if-side-eq1.true c.requires.1
+          (let z = length-map q.places.now f in omega arith);
       moved = record { ends = omega arith; left = omega arith; right = omega arith };
       holds = λ n. holds_more n q.places.now q.high c.args.k (omega arith);
     }

@@ -31,5 +31,6 @@ returns c =
     let q = c.args.self.now in
     let one = c.call_at-c in
     let after = c.pop.new.self in
-    subst (λ (x : Finished). Serves ws x q.low q.high (gives x (held ws q.low q.high q.places.now)) c.pop.result after.low after.high after.places.now) one.ensures
+    subst (λ (x : Finished). Serves ws x q.low q.high (gives x (held ws q.low q.high q.places.now)) c.pop.result after.low after.high after.places.now)
+    one.ensures
     (rw (ne_eqb one.result.kind 0 c.if-c-eq0.false) c.pop.ensures)
