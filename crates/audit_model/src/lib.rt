@@ -1,6 +1,9 @@
 //! A history of finished calls and the verdict on it, by value. What the verdict is stands in `specs/Audit.antt`.
 #![tactic(auto)]
 
+ghost use Rattle.std.specs.Prelude.{◌≡◌};
+ghost use Rattle.audit_model.specs.LentHistory.{verdict_reply};
+
 /// A finished call, as a history tells it. The task is told, and decides nothing.
 #[repr(C)]
 #[derive(Clone, Copy)]
@@ -38,4 +41,17 @@ pub struct VerdictReply {
     pub code: u32,
     /// Where it fails.
     pub position: u32,
+}
+
+impl From<Verdict> for VerdictReply {
+    ghost from_gives = { λ v reply. reply ≡ verdict_reply v };
+
+    fn from(v: Verdict) -> Self {
+        let (code, position) = match v {
+            Verdict::Refused(why) => (why, 0),
+            Verdict::Failed(position) => (1, position),
+            Verdict::Passed => (0, 0),
+        };
+        VerdictReply { code, position }
+    }
 }

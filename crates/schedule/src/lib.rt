@@ -11,7 +11,7 @@ ghost use Rattle.schedule_search.specs.Sought.{seeking};
 ghost use Rattle.schedule.specs.Answered.{refusal_after, Begins, Answered, answered};
 
 use model::{Call, Control};
-use schedule_model::ScheduleReply;
+use schedule_model::{Ending, ScheduleReply};
 use sound::Lengths;
 use walk::Tally;
 
@@ -84,11 +84,9 @@ fn refused(why: u32) -> ScheduleReply
 fn row_at(records: &[[u64; layout::RECORD_WORDS]], task: usize) -> [u64; layout::RECORD_WORDS]
     ensures { record_of result ≡ get_or (records_of records.now) task unused }
 {
-    if task < records.len() {
-        let row = records[task];
-        row
-    } else {
-        [0; layout::RECORD_WORDS]
+    match records.get(task) {
+        Some(row) => *row,
+        None => [0; layout::RECORD_WORDS],
     }
 }
 
@@ -96,8 +94,7 @@ fn row_at(records: &[[u64; layout::RECORD_WORDS]], task: usize) -> [u64; layout:
 fn memory_length(given: &[u64]) -> u64
     ensures { result ≡ memory_length given.now }
 {
-    let n = table::get_or(given, 0, 0);
-    if n <= 48 { n } else { 48 }
+    table::get_or(given, 0, 0).min(48)
 }
 
 /// The schedule after the remembered list, stored over it.
@@ -123,21 +120,23 @@ fn hand_out(
         record { handed = handing ws (seeking ws (memory_length ws) 48 false q); tables = q.tables }) }
 {
     let len = memory_length(given);
-    let f = schedule_search::search(
+    let found = schedule_search::search(
         control, a, b, len, given, lefts, rights, labels, marks, next,
     );
-    if !f.found {
-        return ScheduleReply {
+    match found {
+        Some(f) => {
+            table::set(given, 0, f.length);
+            ScheduleReply {
+                code: 0,
+                ending: f.ending,
+                length: f.length,
+            }
+        }
+        None => ScheduleReply {
             code: 0,
-            ending: 3,
+            ending: u64::from(Ending::NoMore),
             length: 0,
-        };
-    }
-    table::set(given, 0, f.length);
-    ScheduleReply {
-        code: 0,
-        ending: f.ending,
-        length: f.length,
+        },
     }
 }
 
