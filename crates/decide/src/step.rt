@@ -31,7 +31,7 @@ pub fn refused(c: Control, r: Call) -> Transition
 fn goes(c: Control, t: Call, n: u8) -> Transition
     ensures { result ≡ record { control = c; task = goes t n; outcome = Outcome.Moved (Answer.Running n); failed = false } }
 {
-    let place = n as u64;
+    let place = u64::from(n);
     if n > 17 {
         return ends(c, Answer::Running(place));
     }
@@ -70,22 +70,14 @@ fn ends(c: Control, a: Answer) -> Transition
 pub fn settles(c: Control, t: Call, n: u8, e: Entry) -> Transition
     ensures { result ≡ settled c t n e }
 {
-    if n == next::LEAVE {
-        if t.finishing == 1 {
-            ends(c, Answer::Pushed)
-        } else {
-            goes(c, t, 1)
-        }
-    } else if n == next::PUSHED {
-        ends(c, Answer::Pushed)
-    } else if n == next::EMPTY {
-        ends(c, Answer::Empty)
-    } else if n == next::POPPED {
-        ends(c, Answer::Popped(e))
-    } else if n == next::NO_FREE_SLOT {
-        ends(c, Answer::NoFreeSlot)
-    } else {
-        goes(c, t, n)
+    match n {
+        next::LEAVE if t.finishing == 1 => ends(c, Answer::Pushed),
+        next::LEAVE => goes(c, t, 1),
+        next::PUSHED => ends(c, Answer::Pushed),
+        next::EMPTY => ends(c, Answer::Empty),
+        next::POPPED => ends(c, Answer::Popped(e)),
+        next::NO_FREE_SLOT => ends(c, Answer::NoFreeSlot),
+        _ => goes(c, t, n),
     }
 }
 
