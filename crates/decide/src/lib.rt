@@ -40,13 +40,11 @@ pub fn new4(r: Call) -> u64
 {
     let right = r.side == 1;
     let a = Anchor::unpack(r.seen);
+    let push = r.kind == 0;
+    let status = if push { side::pushing(right) } else { a.status };
+    let end = if push { r.own } else { r.neighbour };
     let far = side::near(!right, a);
-    let tag = step::raised(r.seen);
-    if r.kind == 0 {
-        side::facing(right, tag, side::pushing(right), r.own, far)
-    } else {
-        side::facing(right, tag, a.status, r.neighbour, far)
-    }
+    side::facing(right, step::raised(r.seen), status, end, far)
 }
 
 /// Place 9: the neighbour's outward link, which names the end.
