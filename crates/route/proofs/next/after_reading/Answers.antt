@@ -50,18 +50,18 @@ pub returns-then-a-eq0-2 : goal.returns-then-a-eq0-2
 unfolding reading
 returns-then-a-eq0-2 c =
     let n : (is_empty c.args.a ≡ false) × ((eqb c.args.kind 1 && eqb c.args.a.left c.args.a.right) ≡ false) =
-        elim c.if-a.branch [
-          | then-a+else-a-eq0+else-kind-eq1 w ↦ no_label c.args.kind c.args.a w.if-a-eq0.false w.if-kind-eq1.false
-          | else-a w ↦ apart c.args.kind c.args.a w.if-a.false
-        ] in
+    elim c.if-a.branch [
+      | then-a+else-a-eq0+else-kind-eq1 w ↦ no_label c.args.kind c.args.a w.if-a-eq0.false w.if-kind-eq1.false
+      | else-a w ↦ apart c.args.kind c.args.a w.if-a.false
+    ] in
     led _ _ _ _ 2 _ _ c.next-then-a-eq0-2.ensures c.from-behind.ensures (simp (n.0, n.1, eq-eqb _ _ c.if-a-eq0-2.true) refl)
 
 pub returns-else-a-eq0-2 : goal.returns-else-a-eq0-2
 unfolding reading
 returns-else-a-eq0-2 c =
     let n : (is_empty c.args.a ≡ false) × ((eqb c.args.kind 1 && eqb c.args.a.left c.args.a.right) ≡ false) =
-        elim c.if-a.branch [
-          | then-a+else-a-eq0+else-kind-eq1 w ↦ no_label c.args.kind c.args.a w.if-a-eq0.false w.if-kind-eq1.false
-          | else-a w ↦ apart c.args.kind c.args.a w.if-a.false
-        ] in
+    elim c.if-a.branch [
+      | then-a+else-a-eq0+else-kind-eq1 w ↦ no_label c.args.kind c.args.a w.if-a-eq0.false w.if-kind-eq1.false
+      | else-a w ↦ apart c.args.kind c.args.a w.if-a.false
+    ] in
     led _ _ _ _ 3 _ _ c.next-else-a-eq0-2.ensures c.from-behind.ensures (simp (n.0, n.1, ne_eqb _ _ c.if-a-eq0-2.false) refl)
