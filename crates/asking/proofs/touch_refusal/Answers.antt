@@ -66,14 +66,7 @@ pub returns-in_default : goal.returns-in_default
 unfolding touch_refusal step_sound move at17
 returns-in_default c ms =
     let a = c.args in
-    let four = c.in_default.in_default-own.rest.0.0.0.0 in
-    let first = four.0.0.0.0.0.0.0.0.1 in
-    let one : a.r.place ≡ 1 → ⊥ = λ e. first (inl e) in
-    let six : a.r.place ≡ 6 → ⊥ = λ e. first (inr (inl e)) in
-    let eight : a.r.place ≡ 8 → ⊥ = λ e. first (inr (inr (inl e))) in
-    let last : a.r.place ≡ 16 → ⊥ = λ e. first (inr (inr (inr e))) in
-    let no : (k : ℕ) → 1 ≤ k → k ≤ 16 → eqb a.r.place k ≡ false =
-    λ k low high. ne_eqb _ k (λ e. omega (arith, low, high, e, one, six, eight, last)) in
+    let no : (k : ℕ) → 1 ≤ k → k ≤ 16 → eqb a.r.place k ≡ false = λ k low high. ne_eqb _ k (λ e. grind (arith, low, high, e)) in
     let n1 = no 1 (omega arith) (omega arith) in
     let n2 = no 2 (omega arith) (omega arith) in
     let n3 = no 3 (omega arith) (omega arith) in
