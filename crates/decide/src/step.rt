@@ -1,5 +1,5 @@
 //! How a step ends: refused, made, or a change of Anchor tried.
-ghost use mathlib.Core.{Path.◌≡◌, Bool.{false, cond}};
+ghost use mathlib.Core.{Path.◌≡◌, Bool.false};
 ghost use Rattle.std.specs.Prelude.{◌+◌, ◌/◌, ◌^◌};
 ghost use Rattle.word.specs.Link.{pack_link};
 ghost use Rattle.model.specs.{Tables.{idle, with_seen}, Route.goes};
@@ -12,6 +12,7 @@ use route::next;
 use word::{Anchor, Link};
 
 /// For a step that pops nothing.
+// An entry and no `None`: `settled` and `no_entry`, which the clauses of this crate name, give every step one.
 pub const NO_ENTRY: Entry = Entry { slot: 0, label: 0 };
 
 /// 34: nothing is changed.

@@ -2,7 +2,7 @@
 #![tactic(auto)]
 
 ghost use Rattle.std.specs.Prelude.{◌≡◌};
-ghost use Rattle.model.specs.{Calls.reply_of, Ends.{answer_ends, ends_call, is_moved, is_running}};
+ghost use Rattle.model.specs.{Calls.reply_of, Ends.{ends_call, is_moved, is_running}};
 
 use model::{Answer, Outcome, Reply};
 
@@ -36,6 +36,7 @@ pub fn refuse(why: u32) -> Outcome
 }
 
 /// An outcome in numbers.
+// A function and no `From`: both types are of `model`, and Rust lets only their own crate say how one turns into the other.
 pub fn reply(o: Outcome) -> Reply
     ensures { result ≡ reply_of o }
 {
