@@ -3,9 +3,7 @@ use Rattle.std.proofs.Common.{◌≡◌, ◌≤◌, length, refl, sym, ap, ◌�
 use Rattle.calls.{specs.Opening.OpenedParts, proofs.Openings.clear-fits}
 use Rattle.layout.proofs.Rows.{length_records, all-zeroed}
 use Rattle.lines.proofs.Puts.{put-fits}
-use Rattle.trace_field.proofs.AfterActs.{open_page}
-use Rattle.trace_field.specs.Run.{is_opened}
-use Rattle.trace_field.proofs.acts.open_queue.Goals.{in-Opened, in_default}
+use Rattle.trace_field.proofs.AfterActs.{open_page, opened_is}
 use Rattle.trace_field.proofs.acts.open_queue.Goals as goal
 
 pub returns : goal.returns
@@ -14,11 +12,7 @@ returns c =
     let made = c.open_tables-parts in
     let fits : made.result.clear ≤ n = subst (λ (x : OpenedParts). x.clear ≤ n) (sym made.ensures) (clear-fits _ _ n _ _ _) in
     let e = c.clear.ensures in
-    let opened : c.match-matches.matches ≡ is_opened made.result.outcome = elim c.match-matches.branch [
-      | in-Opened w ↦ w.matches-is ∙ sym (ap is_opened w.in-Opened.is)
-      | in_default w ↦ w.matches-is ∙ sym (ap is_opened w.in_default.is)
-    ] in
     open_page _ _ _ _ _ _ _ _ _ _ _ _ _ (sym (length_records _)) made.ensures
     (e.rows_after ∙ all-zeroed _ _ _ _ fits) (e.rows_after_2 ∙ all-zeroed _ _ _ _ fits)
-    opened refl
+    (c.is_ok-opened.ensures.value ∙ opened_is made.result.outcome) refl
     (put-fits _ c.write_line-to.ensures.put c.requires)
