@@ -5,7 +5,7 @@ ghost use Rattle.calls.specs.Telling.{countable};
 
 use model::{Control, Report, Reported};
 use sound::{Lengths, admission};
-use walk::Tally;
+use walk::Unsound;
 use word::Anchor;
 
 /// How many records the report looks at: one for each task, or none where it will be refused.
@@ -45,10 +45,9 @@ pub fn told(
     if why != 0 {
         return Reported::Refused(why);
     }
-    let walked = walk::waiting(c, lefts, rights);
-    match walked {
-        Tally::Broken => Reported::Refused(34),
-        Tally::Labels(waiting) => {
+    match walk::waiting(c, lefts, rights) {
+        Err(Unsound) => Reported::Refused(34),
+        Ok(waiting) => {
             let anchor = Anchor::unpack(c.anchor);
             let taken = marks::taken(c.slots, marks);
             Reported::Told(Report {

@@ -8,7 +8,8 @@ use Rattle.model.specs.{declared.{Control.Control, Entry.Entry}, Tables.{Queue, 
 use Rattle.model.specs.{Sound.{control_tests, control_sound}, Walk.{contents, met}}
 use Rattle.model.proofs.{Tests.Rules.tests, Bridge.Facts.from1_true}
 use Rattle.sound.specs.Lengths.{lengths_of}
-use Rattle.walk.specs.{declared.Tally.{Tally, TheVariants.{Broken, Labels}}, Counted.counted}
+use Rattle.std.specs.Prelude.{Result, Ok, Err}
+use Rattle.walk.specs.{declared.Unsound.Unsound, Counted.counted}
 use Rattle.walk.proofs.Counting.{all-counted, none-counted}
 use Rattle.layout.{specs.Rows.records_of, proofs.Rows.length_records}
 use Rattle.stock_model.specs.Accounts.{waiting_labels}
@@ -66,25 +67,24 @@ module _ (a b q : Queue) where
     unfolding control_sound
     small = (from1_true 1023 q.tables.control.slots (tests (control_tests q.tables.control) passed.2).1.0).1
 
-    first-lost : Broken ≡ counted (contents a.tables) → Admits a b q (refused_by 34)
+    first-lost : (u : Unsound) → Err u ≡ counted (contents a.tables) → Admits a b q (refused_by 34)
     unfolding closed_refusal
-    first-lost g = refusing 34 (rw (passed.0, passed.1, passed.2, passed.3, none-counted (contents a.tables) g)) (λ z. omega arith)
+    first-lost u g = refusing 34 (rw (passed.0, passed.1, passed.2, passed.3, none-counted (contents a.tables) u g)) (λ z. omega arith)
 
-    module _ (k : ℕ) (g : Labels k ≡ counted (contents a.tables)) where
-      second-lost : Broken ≡ counted (contents b.tables) → Admits a b q (refused_by 34)
+    module _ (k : ℕ) (g : Ok k ≡ counted (contents a.tables)) where
+      second-lost : (u : Unsound) → Err u ≡ counted (contents b.tables) → Admits a b q (refused_by 34)
       unfolding closed_refusal
-      second-lost h =
+      second-lost u h =
           refusing 34 (rw (
             passed.0,
             passed.1,
             passed.2,
             passed.3,
             (all-counted (contents a.tables) k g).0,
-            none-counted
-                (contents b.tables) h,
+            none-counted (contents b.tables) u h,
           )) (λ z. omega arith)
 
-      module _ (m : ℕ) (h : Labels m ≡ counted (contents b.tables)) where
+      module _ (m : ℕ) (h : Ok m ≡ counted (contents b.tables)) where
         in_first : k ≡ length (waiting_labels a.tables)
         in_first = (all-counted (contents a.tables) k g).1 ∙ sym (length-map (met (contents a.tables)) (λ (e : Entry). e.label))
 
@@ -112,18 +112,18 @@ module _ (a b q : Queue) where
       pub lost : r.code ≢ 0 → Admits a b q r
       lost h = subst (Admits a b q) (sym w) (go _ _ refl refl (λ z. h (ap (λ (x : Admission). x.code) w ∙ z)))
         where
-          go : (x y : Tally) → x ≡ counted (contents a.tables) → y ≡ counted (contents b.tables) → (walked x y).code ≢ 0 → Admits a b q (walked x y)
-          go Broken y ex ey h = first-lost ex
-          go (Labels k) Broken ex ey h = second-lost k ex ey
-          go (Labels k) (Labels m) ex ey h = absurd (h refl)
+          go : (x y : Result ℕ Unsound) → x ≡ counted (contents a.tables) → y ≡ counted (contents b.tables) → (walked x y).code ≢ 0 → Admits a b q (walked x y)
+          go (Err u) y ex ey h = first-lost u ex
+          go (Ok k) (Err u) ex ey h = second-lost k ex u ey
+          go (Ok k) (Ok m) ex ey h = absurd (h refl)
 
       abbrev Met : Admission → Type 0
-      Met x = (Labels x.first ≡ counted (contents a.tables)) × (Labels x.second ≡ counted (contents b.tables))
+      Met x = (Ok x.first ≡ counted (contents a.tables)) × (Ok x.second ≡ counted (contents b.tables))
 
       pub met_all : r.code ≡ 0 → Met r
       met_all z = subst Met (sym w) (go _ _ refl refl (ap (λ (x : Admission). x.code) (sym w) ∙ z))
         where
-          go : (x y : Tally) → x ≡ counted (contents a.tables) → y ≡ counted (contents b.tables) → (walked x y).code ≡ 0 → Met (walked x y)
-          go Broken y ex ey z = absurd (omega arith)
-          go (Labels k) Broken ex ey z = absurd (omega arith)
-          go (Labels k) (Labels m) ex ey z = (ex, ey)
+          go : (x y : Result ℕ Unsound) → x ≡ counted (contents a.tables) → y ≡ counted (contents b.tables) → (walked x y).code ≡ 0 → Met (walked x y)
+          go (Err u) y ex ey z = absurd (omega arith)
+          go (Ok k) (Err u) ex ey z = absurd (omega arith)
+          go (Ok k) (Ok m) ex ey z = (ex, ey)

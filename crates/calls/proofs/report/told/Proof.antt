@@ -27,22 +27,22 @@ returns : tie.Need-returns-then-why-ne0
 returns c = let r = c.before in refused (tables r) (enough r) (start r).args.busy _ (found r) c.if-why-ne0.true
 
 -- The walk, where the first two rules passed.
-walked : (w : tie.After-waiting-walked) → w.waiting-walked.result ≡ counted (contents (tables w.before.before))
-walked w = let a = (start w.before.before).args in w.waiting-walked.ensures a.labels.now a.marks.now a.next.now
+walked : (w : tie.After-waiting) → w.waiting.result ≡ counted (contents (tables w.before.before))
+walked w = let a = (start w.before.before).args in w.waiting.ensures a.labels.now a.marks.now a.next.now
 
-returns-2 : tie.Need-returns-in-Broken
+returns-2 : tie.Need-returns-in-Err
 returns-2 c =
     let w = c.before in
     let r = w.before.before in
-    astray (tables r) (enough r) (start r).args.busy _ (found r) w.before.if-why-ne0.false (sym c.in-Broken.is ∙ walked w)
+    astray (tables r) (enough r) (start r).args.busy _ (found r) w.before.if-why-ne0.false _ (sym c.in-Err.is ∙ walked w)
 
-returns-3 : tie.Need-returns-in-Labels
+returns-3 : tie.Need-returns-in-Ok
 returns-3 c =
     let k = c.before.before in
     let w = k.before in
     let r = w.before.before in
     rw (c.before.unpack-anchor.ensures, c.taken-taken.ensures)
-    (tells (tables r) (enough r) (start r).args.busy _ (found r) w.before.if-why-ne0.false k.in-Labels.waiting (sym k.in-Labels.is ∙ walked w))
+    (tells (tables r) (enough r) (start r).args.busy _ (found r) w.before.if-why-ne0.false k.in-Ok.waiting (sym k.in-Ok.is ∙ walked w))
 
 pub told_spec : {M : Type 1} → statement M
 told_spec =
