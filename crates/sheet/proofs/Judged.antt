@@ -129,9 +129,9 @@ module _ (q : Tables) (s : Sheet) (enough : Bool) where
       split (eqb (why q s enough) 0)
       (λ z. lost_there z (extents_in s q) refl (e ∙ ap answered z))
       (λ z.
-          let h : n ≡ why q s enough = stands (e ∙ ap answered z) in
-          let some = eqb-false (why q s enough) 0 z in
-          (ap refused h ∙ judge-unfit q s enough some, λ w. some (sym h ∙ w)))
+      let h : n ≡ why q s enough = stands (e ∙ ap answered z) in
+      let some = eqb-false (why q s enough) 0 z in
+      (ap refused h ∙ judge-unfit q s enough some, λ w. some (sym h ∙ w)))
     where
       stands : Err n ≡ answered false → n ≡ why q s enough
       stands f = cc
