@@ -208,12 +208,12 @@ pub extern "C" fn zc_find(
         return refused(why);
     }
     let mut positions: [u64; 32] = [0; 32];
-    match search(c, lefts, rights, labels, wanted, &mut positions) {
-        Ok(rows) => FindReply {
-            code: 0,
-            rows,
-            positions,
-        },
-        Err(Unsound) => refused(34),
+    let Ok(rows) = search(c, lefts, rights, labels, wanted, &mut positions) else {
+        return refused(34);
+    };
+    FindReply {
+        code: 0,
+        rows,
+        positions,
     }
 }

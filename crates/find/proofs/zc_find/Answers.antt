@@ -31,16 +31,16 @@ search-requires c =
     let r = (goal.at.search-requires c).After-refusal-why in
     (few (tables r []) c.args.wanted.now _ (c.refusal-why.ensures []) c.if-why-ne0.false, refl)
 
-pub returns-in-Ok : goal.returns-in-Ok
-returns-in-Ok c next =
-    let r = (goal.at.returns-in-Ok c).After-refusal-why in
+pub returns : goal.returns
+returns c next =
+    let r = (goal.at.returns c).After-refusal-why in
     let q = tables r next in
     answers r next _ (c.in-Ok.ensures
     ∙ finds q c.args.wanted.now _ (c.refusal-why.ensures next) c.if-why-ne0.false _ (waits q (beginning_of q.control) refl))
 
-pub returns-in-Err : goal.returns-in-Err
-returns-in-Err c next =
-    let r = (goal.at.returns-in-Err c).After-refusal-why in
+pub returns-in_default : goal.returns-in_default
+returns-in_default c next =
+    let r = (goal.at.returns-in_default c).After-refusal-why in
     let q = tables r next in
-    answers r next _ (c.refused-in-Err.ensures ∙ c.in-Err.ensures
+    answers r next _ (c.refused-in_default.ensures ∙ c.in_default.ensures
     ∙ finds q c.args.wanted.now _ (c.refusal-why.ensures next) c.if-why-ne0.false _ (waits q (beginning_of q.control) refl))
