@@ -124,8 +124,8 @@ module _ (q : Tables) (s : Sheet) (enough : Bool) where
   abbrev answered : Bool → Result Extents ℕ
   answered b = cond b (walked (extents_in s q)) (Err (why q s enough))
 
-  pub asked-err : (n : ℕ) → Err n ≡ asked (why q s enough) (extents_in s q) → (refused n ≡ judge q s enough) × (n ≡ 0 → ⊥)
-  asked-err n e =
+  err-asked : (n : ℕ) → Err n ≡ asked (why q s enough) (extents_in s q) → (refused n ≡ judge q s enough) × (n ≡ 0 → ⊥)
+  err-asked n e =
       split (eqb (why q s enough) 0)
       (λ z. lost_there z (extents_in s q) refl (e ∙ ap answered z))
       (λ z.
@@ -147,8 +147,8 @@ module _ (q : Tables) (s : Sheet) (enough : Bool) where
     pub ok : Accepted q s enough
     pub noted : made x ≡ extents_in s q
 
-  pub asked-ok : (x : Extents) → Ok x ≡ asked (why q s enough) (extents_in s q) → Asked x
-  asked-ok x e = split (eqb (why q s enough) 0) (λ z. record {
+  ok-asked : (x : Extents) → Ok x ≡ asked (why q s enough) (extents_in s q) → Asked x
+  ok-asked x e = split (eqb (why q s enough) 0) (λ z. record {
     ok = accepted q s enough (eqb-true (why q s enough) 0 z);
     noted = same (extents_in s q) (e ∙ ap answered z);
   }) (λ z. absurd (neither (e ∙ ap answered z)))
@@ -159,6 +159,20 @@ module _ (q : Tables) (s : Sheet) (enough : Bool) where
       same : (m : Made Extents) → Ok x ≡ walked m → made x ≡ m
       same (made y) f = let g : x ≡ y = cc in ap made g
       same lost f = absurd cc
+
+  -- The walk notes where none was seen.
+  module _ (first : Extents) (blank : first ≡ unseen) where
+    abbrev asked-from : Result Extents ℕ
+    asked-from = asked (why q s enough) (extents (beginning_of q.control) s.listed q.lefts q.rights q.labels first)
+
+    from : asked-from ≡ asked (why q s enough) (extents_in s q)
+    from = ap (λ (x : Extents). asked (why q s enough) (extents (beginning_of q.control) s.listed q.lefts q.rights q.labels x)) blank
+
+    pub asked-err : (n : ℕ) → Err n ≡ asked-from → (refused n ≡ judge q s enough) × (n ≡ 0 → ⊥)
+    asked-err n e = err-asked n (e ∙ from)
+
+    pub asked-ok : (x : Extents) → Ok x ≡ asked-from → Asked x
+    asked-ok x e = ok-asked x (e ∙ from)
 
 -- The tests before the walk, one after the other.
 module _ (a b c : Bool) where

@@ -63,7 +63,7 @@ extents (Ok None) listed lefts rights labels e = made e
 extents (Err u) listed lefts rights labels e = lost
 extents (Ok (Some w)) listed lefts rights labels e = gathered w.rightward listed e (ahead w lefts rights labels)
 
--- As the code tells it.
-abbrev pub told : Result Extents Unsound → Made Extents
-told (Ok e) = made e
-told (Err u) = lost
+-- As the code tells it; of a broken walk nothing counts.
+abbrev pub told : Result (Unit {0}) Unsound → Extents → Made Extents
+told (Ok u) e = made e
+told (Err u) e = lost

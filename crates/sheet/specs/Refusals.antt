@@ -14,5 +14,10 @@ abbrev pub walked : Made Extents → Result Extents ℕ
 walked (made e) = Ok e
 walked lost = Err 34
 
+-- As the code answers: what the walk noted is in the caller's hands.
+abbrev pub answered : Result (Unit {0}) ℕ → Extents → Result Extents ℕ
+answered (Ok u) e = Ok e
+answered (Err n) e = Err n
+
 abbrev pub asked : ℕ → Made Extents → Result Extents ℕ
 asked why m = cond (eqb why 0) (walked m) (Err why)

@@ -17,7 +17,7 @@ pub struct Extents {
 }
 
 impl Extents {
-    fn unseen() -> Extents
+    pub fn unseen() -> Extents
         ensures { result ≡ unseen }
     {
         Extents {
@@ -61,17 +61,17 @@ fn gather(
     rights: &[u64],
     labels: &[u32],
     listed: &[u32],
-) -> Result<Extents, Unsound>
+    seen: &mut Extents,
+) -> Result<(), Unsound>
     requires { (w.slots ≤ 1023) × (from1 w.slots w.first ≡ true) }
-    ensures { told result ≡ gathered w.rightward listed.now unseen (ahead w lefts.now rights.now labels.now) }
+    ensures { told result seen.new ≡ gathered w.rightward listed.now seen.old (ahead w lefts.now rights.now labels.now) }
 {
-    let mut seen = Extents::unseen();
     let mut at = first_at(w.rightward);
     let mut x = w.first;
     for _ in 0..w.slots {
         seen.note(place_from(listed, 0, table::label_at(labels, x)), at);
         let Some(y) = walk::leads(w, lefts, rights, x)? else {
-            return Ok(seen);
+            return Ok(());
         };
         x = y;
         at = next_at(w.rightward, at);
@@ -86,12 +86,13 @@ pub fn of_waiting(
     lefts: &[u64],
     rights: &[u64],
     labels: &[u32],
-) -> Result<Extents, Unsound>
+    seen: &mut Extents,
+) -> Result<(), Unsound>
     requires { c.slots ≤ 1023 }
-    ensures { told result ≡ extents (beginning_of c) listed.now lefts.now rights.now labels.now unseen }
+    ensures { told result seen.new ≡ extents (beginning_of c) listed.now lefts.now rights.now labels.now seen.old }
 {
     match walk::begin(c)? {
-        None => Ok(Extents::unseen()),
-        Some(w) => gather(w, lefts, rights, labels, listed),
+        None => Ok(()),
+        Some(w) => gather(w, lefts, rights, labels, listed, seen),
     }
 }

@@ -6,7 +6,7 @@ ghost use Rattle.std.specs.Prelude.{ℕ};
 ghost use Rattle.model.specs.{Tables.tables_of, Sound.{control_sound, rows_fit}};
 ghost use Rattle.sheet_model.specs.{Sheet.malformed, Verdict.{refused, sheet, Printed, sheet_words}};
 ghost use Rattle.walk.specs.Ways.{beginning_of};
-ghost use Rattle.sheet.specs.{Refusals.{unfit, asked}, Extents.{unseen, extents}};
+ghost use Rattle.sheet.specs.{Refusals.{unfit, answered, asked}, Extents.extents};
 
 use crate::extents::Extents;
 use model::Control;
@@ -49,7 +49,7 @@ fn unfit(c: Control, listed: &[u32], rules: &[u32], fits: bool) -> u64
     if fits { 0 } else { 12 }
 }
 
-/// Where the listed labels wait, or the number of a refusal: those before the walk, then 34 for it.
+/// Notes where the listed labels wait, or says the number of a refusal: those before the walk, then 34 for it.
 /// There is room for the chained rules, or not.
 fn asked(
     c: Control,
@@ -60,13 +60,14 @@ fn asked(
     rights: &[u64],
     labels: &[u32],
     marks: &[u64],
-) -> Result<Extents, u64>
-    ensures { (next : List ℕ) → result ≡ asked
+    seen: &mut Extents,
+) -> Result<(), u64>
+    ensures { (next : List ℕ) → answered result seen.new ≡ asked
         (unfit
         (control_sound c)
         (malformed (record { listed = listed.now; rules = rules.now }))
         (rows_fit false c.slots (tables_of c lefts.now rights.now labels.now marks.now next) && room))
-        (extents (beginning_of c) listed.now lefts.now rights.now labels.now unseen) }
+        (extents (beginning_of c) listed.now lefts.now rights.now labels.now seen.old) }
 {
     let t = Lengths {
         records: 0,
@@ -81,8 +82,8 @@ fn asked(
     if why != 0 {
         return Err(why);
     }
-    match extents::of_waiting(c, listed, lefts, rights, labels) {
-        Ok(seen) => Ok(seen),
+    match extents::of_waiting(c, listed, lefts, rights, labels, seen) {
+        Ok(()) => Ok(()),
         Err(Unsound) => Err(34),
     }
 }
@@ -101,8 +102,11 @@ pub fn sheet(
         (tables_of c lefts.now rights.now labels.now marks.now next)
         (record { listed = listed.now; rules = rules.now }) }
 {
-    match asked(c, listed, rules, true, lefts, rights, labels, marks) {
-        Ok(seen) => square::first_broken(rules, listed.len(), &seen),
+    let mut seen = Extents::unseen();
+    match asked(
+        c, listed, rules, true, lefts, rights, labels, marks, &mut seen,
+    ) {
+        Ok(()) => square::first_broken(rules, listed.len(), &seen),
         Err(why) => refused(why),
     }
 }
@@ -126,8 +130,11 @@ pub fn sheet_words(
         lent.old) }
 {
     let room = 32 <= lent.len();
-    match asked(c, listed, rules, room, lefts, rights, labels, marks) {
-        Ok(seen) => {
+    let mut seen = Extents::unseen();
+    match asked(
+        c, listed, rules, room, lefts, rights, labels, marks, &mut seen,
+    ) {
+        Ok(()) => {
             words::closure(lent, rules, listed.len());
             search::first_broken(lent, listed.len(), &seen)
         }

@@ -5,7 +5,9 @@ use Rattle.model.specs.{Tables.{Tables, tables_of}, Sound.{control_sound, rows_f
 use Rattle.sound.specs.Lengths.{lengths_fit}
 use Rattle.sheet_model.specs.Sheet.{Sheet, malformed}
 use Rattle.sheet.specs.{declared.extents.Extents.Extents, Refusals.{unfit, walked}}
-use Rattle.sheet.proofs.Judged.{extents_in, why, accepted, slots_few}
+use Rattle.walk.specs.Ways.{beginning_of}
+use Rattle.sheet.specs.Extents.{extents}
+use Rattle.sheet.proofs.Judged.{why, accepted, slots_few}
 use Rattle.sheet.proofs.asked.Goals as goal
 use Rattle.sheet.proofs.asked.Goals.{After-unfit-why}
 
@@ -20,13 +22,16 @@ module _ (c : After-unfit-why) (next : List ℕ) where
   unfolding lengths_fit rows_fit
   tried = c.unfit-why.ensures ∙ ap (λ (b : Bool). unfit (control_sound c.args.c) (malformed given) (b && c.args.room)) c.rows_fit-fits.ensures
 
-  abbrev answered : Bool → Result Extents ℕ
-  answered b = cond b (walked (extents_in given queue)) (Err (why queue given c.args.room))
+  -- What the walk notes, with or without a refusal before it.
+  abbrev by : Bool → Result Extents ℕ
+  by b =
+      cond b (walked (extents (beginning_of c.args.c) c.args.listed.now c.args.lefts.now c.args.rights.now c.args.labels.now c.args.seen.now))
+      (Err (why queue given c.args.room))
 
 pub returns-then-why-ne0 : goal.returns-then-why-ne0
 returns-then-why-ne0 c next =
     let u = (goal.at.returns-then-why-ne0 c).After-unfit-why in
-    ap Err (tried u next) ∙ sym (ap (answered u next) (ne_eqb _ 0 (λ z. c.if-why-ne0.true (tried u next ∙ z))))
+    ap Err (tried u next) ∙ sym (ap (by u next) (ne_eqb _ 0 (λ z. c.if-why-ne0.true (tried u next ∙ z))))
 
 pub of_waiting-requires : goal.of_waiting-requires
 of_waiting-requires c =
@@ -36,9 +41,9 @@ of_waiting-requires c =
 pub returns-in-Ok : goal.returns-in-Ok
 returns-in-Ok c next =
     let u = (goal.at.returns-in-Ok c).After-unfit-why in
-    ap walked c.in-Ok.ensures ∙ sym (ap (answered u next) (eq-eqb _ 0 (sym (tried u next) ∙ c.if-why-ne0.false)))
+    ap walked c.in-Ok.ensures ∙ sym (ap (by u next) (eq-eqb _ 0 (sym (tried u next) ∙ c.if-why-ne0.false)))
 
 pub returns-in-Err : goal.returns-in-Err
 returns-in-Err c next =
     let u = (goal.at.returns-in-Err c).After-unfit-why in
-    ap walked c.in-Err.ensures ∙ sym (ap (answered u next) (eq-eqb _ 0 (sym (tried u next) ∙ c.if-why-ne0.false)))
+    ap walked c.in-Err.ensures ∙ sym (ap (by u next) (eq-eqb _ 0 (sym (tried u next) ∙ c.if-why-ne0.false)))

@@ -14,8 +14,8 @@ module _ (c : In-Ok) (next : List ℕ) where
   abbrev queue : Tables
   queue = tables_of c.args.c c.args.lefts.now c.args.rights.now c.args.labels.now c.args.marks.now next
 
-  fine : Asked queue given true c.in-Ok.seen
-  fine = asked-ok queue given true c.in-Ok.seen (c.in-Ok.ensures next)
+  fine : Asked queue given true c.asked.new.seen
+  fine = asked-ok queue given true c.unseen-seen.result c.unseen-seen.ensures c.asked.new.seen (c.in-Ok.ensures next)
 
 pub first_broken-requires : goal.first_broken-requires
 first_broken-requires c =
@@ -27,7 +27,7 @@ unfolding sheet
 returns-in-Ok c next =
     let v = (goal.at.returns-in-Ok c).In-Ok in
     let n = length c.args.listed.now in
-    let e = c.in-Ok.seen in
+    let e = c.asked.new.seen in
     c.first_broken.ensures
     ∙ ap (λ (m : List (List ℕ)). in_rows (crossed byte_row m e.low e.high) n 1 n) (square_marks (linked c.args.rules.now n))
     ∙ judge-told (queue v next) (given v next) true (fine v next).ok byte_row bytes bytes_show [] e (fine v next).noted
@@ -38,4 +38,4 @@ returns-in-Err c next =
     let a = c.args in
     c.refused.ensures
     ∙ (asked-err (tables_of a.c a.lefts.now a.rights.now a.labels.now a.marks.now next) (record { listed = a.listed.now; rules = a.rules.now }) true
-    c.in-Err.why (c.in-Err.ensures next)).0
+    c.unseen-seen.result c.unseen-seen.ensures c.in-Err.why (c.in-Err.ensures next)).0

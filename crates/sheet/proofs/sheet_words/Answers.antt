@@ -21,8 +21,8 @@ module _ (c : In-Ok) (next : List ℕ) where
   abbrev room : Bool
   room = leb 32 (length c.args.lent.now)
 
-  fine : Asked queue given room c.in-Ok.seen
-  fine = asked-ok queue given room c.in-Ok.seen (c.in-Ok.ensures next)
+  fine : Asked queue given room c.asked.new.seen
+  fine = asked-ok queue given room c.unseen-seen.result c.unseen-seen.ensures c.asked.new.seen (c.in-Ok.ensures next)
 
 pub closure-requires : goal.closure-requires
 closure-requires c =
@@ -41,7 +41,7 @@ unfolding words_of
 returns-in-Ok c next =
     let v = (goal.at.returns-in-Ok c).In-Ok in
     let n = length c.args.listed.now in
-    let e = c.in-Ok.seen in
+    let e = c.asked.new.seen in
     printed-told (queue v next) (given v next) c.args.lent.now c.first_broken.result c.closure.new.words
     (c.first_broken.ensures ∙ ap (λ (m : List ℕ). in_rows (crossed bit_row m e.low e.high) n 1 n) c.closure.ensures
     ∙ judge-told (queue v next) (given v next) (room v next) (fine v next).ok bit_row bits bits_show (drop 32 c.args.lent.now) e (fine v next).noted)
@@ -52,6 +52,6 @@ returns-in-Err c next =
     let a = c.args in
     let q = tables_of a.c a.lefts.now a.rights.now a.labels.now a.marks.now next in
     let s : Sheet = record { listed = a.listed.now; rules = a.rules.now } in
-    let r = asked-err q s (leb 32 (length a.lent.now)) c.in-Err.why (c.in-Err.ensures next) in
+    let r = asked-err q s (leb 32 (length a.lent.now)) c.unseen-seen.result c.unseen-seen.ensures c.in-Err.why (c.in-Err.ensures next) in
     printed-refused q s a.lent.now c.refused.result (c.refused.ensures ∙ r.0)
     (λ z. r.1 (sym (ap (λ (r : SheetReply). r.code) c.refused.ensures) ∙ z))

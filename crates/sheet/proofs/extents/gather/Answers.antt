@@ -3,7 +3,7 @@ use Rattle.std.proofs.Common.{◌≡◌, sym, ap, ◌∙◌, ℕ, [], ◌+◌, g
 use Rattle.std.proofs.lemmas.Result.{err_from_is_err_and}
 use Rattle.walk.specs.{declared.Unsound.Unsound, Ways.ahead, Over.{made, over}}
 use Rattle.walk.proofs.Along.{comes, full, turned, turns, led_to}
-use Rattle.sheet.specs.{declared.extents.Extents.Extents, Extents.{Noting, unseen, begun, noted, ended, told, next_at}}
+use Rattle.sheet.specs.{declared.extents.Extents.Extents, Extents.{Noting, begun, noted, ended, told, next_at}}
 use Rattle.sheet.proofs.{Gather.noted-is, Turns.{position-on}}
 use Rattle.sheet.proofs.extents.gather.Goals as goal
 use Rattle.sheet.proofs.extents.gather.Goals.{After-leads}
@@ -23,7 +23,7 @@ module _ (c : After-leads) where
   onwards : (r : Result (Option ℕ) Unsound) → c.leads.result ≡ r
       → turned (noted c.args.w.rightward c.args.listed.now) c.args.w c.args.lefts.now c.args.rights.now c.args.labels.now c.loop.counter c.loop.x before
       c.loop-test.true c.loop.invariant.on r
-      ≡ over (noted c.args.w.rightward c.args.listed.now) (begun c.args.w.rightward unseen) (ahead c.args.w c.args.lefts.now c.args.rights.now c.args.labels.now)
+      ≡ over (noted c.args.w.rightward c.args.listed.now) (begun c.args.w.rightward c.args.seen.now) (ahead c.args.w c.args.lefts.now c.args.rights.now c.args.labels.now)
   onwards r e =
       sym (turns (noted c.args.w.rightward c.args.listed.now) c.args.w c.args.lefts.now c.args.rights.now c.args.labels.now c.loop.counter c.loop.x before
       c.loop-test.true c.loop.invariant.on r (sym e ∙ c.leads.ensures)) ∙ c.loop.invariant.notes
@@ -31,7 +31,7 @@ module _ (c : After-leads) where
 pub returns-in_err-y : goal.returns-in_err-y
 returns-in_err-y c =
     let p = err_from_is_err_and c.from_residual.result c.from_residual.ensures.1 in
-    ap told p.1 ∙ ap ended (onwards (goal.at.returns-in_err-y c).After-leads _ c.in_err-y.was)
+    ap (λ r. told r c.note.new.self) p.1 ∙ ap ended (onwards (goal.at.returns-in_err-y c).After-leads _ c.in_err-y.was)
 
 pub returns-in_default : goal.returns-in_default
 returns-in_default c =

@@ -2,16 +2,15 @@
 use Rattle.std.proofs.Common.{◌≡◌, sym, ap, ◌∙◌, Option, None, Some, Result, Ok}
 use Rattle.std.proofs.lemmas.Result.{err_from_is_err_and}
 use Rattle.walk.{specs.{declared.{Unsound.Unsound, Way.Way}, Ways.{way_of, beginning_of}}, proofs.Along.begins-at}
-use Rattle.walk.specs.Over.{made}
-use Rattle.sheet.specs.Extents.{unseen, extents, told}
+use Rattle.sheet.specs.Extents.{extents, told}
 use Rattle.sheet.proofs.extents.of_waiting.Goals as goal
 use Rattle.sheet.proofs.extents.of_waiting.Goals.{After-begin}
 
 begun : (c : After-begin) (r : Result (Option Way) Unsound) → c.begin.result ≡ r
-    → extents r c.args.listed.now c.args.lefts.now c.args.rights.now c.args.labels.now unseen
-    ≡ extents (beginning_of c.args.c) c.args.listed.now c.args.lefts.now c.args.rights.now c.args.labels.now unseen
+    → extents r c.args.listed.now c.args.lefts.now c.args.rights.now c.args.labels.now c.args.seen.now
+    ≡ extents (beginning_of c.args.c) c.args.listed.now c.args.lefts.now c.args.rights.now c.args.labels.now c.args.seen.now
 begun c r e =
-    ap (λ (r : Result (Option Way) Unsound). extents r c.args.listed.now c.args.lefts.now c.args.rights.now c.args.labels.now unseen)
+    ap (λ (r : Result (Option Way) Unsound). extents r c.args.listed.now c.args.lefts.now c.args.rights.now c.args.labels.now c.args.seen.now)
     (sym e ∙ c.begin.ensures)
 
 pub gather-requires : goal.gather-requires
@@ -24,11 +23,11 @@ pub returns-in_err-begin : goal.returns-in_err-begin
 unfolding extents
 returns-in_err-begin c =
     let p = err_from_is_err_and c.from_residual.result c.from_residual.ensures.1 in
-    ap told p.1 ∙ begun (goal.at.returns-in_err-begin c).After-begin _ c.in_err-begin.was
+    ap (λ r. told r c.args.seen.now) p.1 ∙ begun (goal.at.returns-in_err-begin c).After-begin _ c.in_err-begin.was
 
 pub returns-in-None : goal.returns-in-None
 unfolding extents
-returns-in-None c = ap made c.unseen.ensures ∙ begun (goal.at.returns-in-None c).After-begin (Ok None) (c.in_ok-begin.was ∙ ap Ok c.in-None.is)
+returns-in-None c = begun (goal.at.returns-in-None c).After-begin (Ok None) (c.in_ok-begin.was ∙ ap Ok c.in-None.is)
 
 pub returns-in-Some : goal.returns-in-Some
 unfolding extents
