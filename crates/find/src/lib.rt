@@ -7,7 +7,7 @@ ghost use lib.{Dec.{leb, ltb}, ListN.{length, get_or, set, replicate}};
 ghost use Rattle.model.specs.{Tables.{tables_of, marked}, Sound.{control_sound, from1, rows_fit}};
 ghost use Rattle.layout.specs.Rows.{control_of};
 ghost use Rattle.walk.specs.{Over.over, Ways.{ahead, beginning_of, walk_by}};
-ghost use Rattle.find_model.specs.{Find.{find, refused}, Noting.{pick, note, turned}};
+ghost use Rattle.find_model.specs.{Find.find, Noting.{pick, note, turned}};
 ghost use Rattle.find.specs.Sieve.{Sifted, Ready};
 ghost use Rattle.find.specs.Looked.{Looks, noted, note_on, turning, found_in, answered, refusal_before};
 
@@ -30,7 +30,7 @@ fn sift(wanted: &[u32], sieve: &mut [u64])
 fn put(foremost: bool, x: u32, y: u32, k: u64, p: &mut u64)
     ensures { p.new ≡ pick foremost x y k p.old }
 {
-    if (y == x) & (!foremost | (*p == 0)) {
+    if y == x && (!foremost || *p == 0) {
         *p = k;
     }
 }
@@ -177,16 +177,6 @@ fn search(
     Ok(rows)
 }
 
-fn refused(code: u32) -> FindReply
-    ensures { result ≡ refused code }
-{
-    FindReply {
-        code: u64::from(code),
-        rows: 0,
-        positions: [0; 32],
-    }
-}
-
 /// Where the labels asked for wait, whatever the next rows: for C and Rust, with control lent as its row of words.
 #[unsafe(no_mangle)]
 pub extern "C" fn zc_find(
@@ -205,11 +195,19 @@ pub extern "C" fn zc_find(
     let c = layout::control_of(row);
     let why = refusal(c, wanted, lefts, rights, labels, marks);
     if why != 0 {
-        return refused(why);
+        return FindReply {
+            code: u64::from(why),
+            rows: 0,
+            positions: [0; 32],
+        };
     }
     let mut positions: [u64; 32] = [0; 32];
     let Ok(rows) = search(c, lefts, rights, labels, wanted, &mut positions) else {
-        return refused(34);
+        return FindReply {
+            code: 34,
+            rows: 0,
+            positions: [0; 32],
+        };
     };
     FindReply {
         code: 0,

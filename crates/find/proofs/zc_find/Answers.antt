@@ -24,7 +24,8 @@ module _ (c : After-refusal-why) (next : List ℕ) where
 pub returns-then-why-ne0 : goal.returns-then-why-ne0
 returns-then-why-ne0 c next =
     let r = (goal.at.returns-then-why-ne0 c).After-refusal-why in
-    answers r next _ (c.refused.ensures ∙ turned_away (tables r next) c.args.wanted.now _ (c.refusal-why.ensures next) c.if-why-ne0.true)
+    answers r next _ (turned_away (tables r next) c.args.wanted.now c.from.result (c.from.ensures ∙ c.refusal-why.ensures next)
+    (λ z. c.if-why-ne0.true (sym c.from.ensures ∙ z)))
 
 pub search-requires : goal.search-requires
 search-requires c =
@@ -42,5 +43,5 @@ pub returns-in_default : goal.returns-in_default
 returns-in_default c next =
     let r = (goal.at.returns-in_default c).After-refusal-why in
     let q = tables r next in
-    answers r next _ (c.refused-in_default.ensures ∙ c.in_default.ensures
+    answers r next _ (c.in_default.ensures
     ∙ finds q c.args.wanted.now _ (c.refusal-why.ensures next) c.if-why-ne0.false _ (waits q (beginning_of q.control) refl))
