@@ -110,10 +110,14 @@ pub fn count(w: Way, lefts: &[u64], rights: &[u64]) -> Result<u64, Unsound>
     requires { from1 w.slots w.first ≡ true }
     ensures { (labels : List ℕ) → result ≡ counted (ahead w lefts.now rights.now labels) }
 {
+    // The loop counts by hand: with `for n in 0..w.slots` zc_waiting takes 938 bytes of code in place of 884,
+    // which is more than a twentieth above its figure in bench/facts.txt.
+    let mut n = 0;
     let mut x = w.first;
-    for n in 0..w.slots {
+    while n < w.slots {
+        n += 1;
         let Some(y) = leads(w, lefts, rights, x)? else {
-            return Ok(n + 1);
+            return Ok(n);
         };
         x = y;
     }

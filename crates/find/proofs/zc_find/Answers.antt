@@ -1,5 +1,5 @@
 -- Refused before the walk, by it, or found.
-use Rattle.std.proofs.Common.{◌≡◌, refl, ap, ◌∙◌, ℕ, List, []}
+use Rattle.std.proofs.Common.{◌≡◌, refl, sym, ap, ◌∙◌, ℕ, List, []}
 use Rattle.model.specs.{declared.Control.Control, Tables.{Tables, tables_of}}
 use Rattle.layout.specs.Rows.{control_of}
 use Rattle.walk.{specs.Ways.{beginning_of}, proofs.Along.waits}
