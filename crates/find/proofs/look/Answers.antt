@@ -15,7 +15,8 @@ module _ (c : After-leads) where
   f = note_on c.args.w.rightward c.args.wanted.now
 
   met : with (c.loop-n.n + 1) c.meet.new.positions
-      ≡ note_on c.args.w.rightward c.args.wanted.now (with c.loop-n.n c.loop-n.positions) (record { slot = c.loop-n.x; label = get_or c.args.labels.now c.loop-n.x 0 })
+      ≡ note_on c.args.w.rightward c.args.wanted.now (with c.loop-n.n c.loop-n.positions)
+      (record { slot = c.loop-n.x; label = get_or c.args.labels.now c.loop-n.x 0 })
   met =
       ap (with (c.loop-n.n + 1))
       (c.meet.ensures ∙ ap (λ (y : ℕ). note c.args.w.rightward y (c.loop-n.n + 1) c.args.wanted.now c.loop-n.positions) c.label_at-label.ensures)

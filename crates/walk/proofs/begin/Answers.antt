@@ -10,8 +10,15 @@ returns-then-a c = rw (ap is_empty (sym c.unpack-a.ensures) ∙ c.if-a.true)
 
 pub returns-then-from1 : goal.returns-then-from1
 unfolding beginning_of
-returns-then-from1 c = rw (ap is_empty (sym c.unpack-a.ensures) ∙ c.if-a.false, c.way_of-w.ensures, ap (λ (w : Way). from1 w.slots w.first) (sym c.way_of-w.ensures) ∙ sym c.from1.ensures ∙ c.if-from1.true)
+returns-then-from1 c = rw (
+  ap is_empty (sym c.unpack-a.ensures) ∙ c.if-a.false,
+  c.way_of-w.ensures,
+  ap (λ (w : Way). from1 w.slots w.first) (sym c.way_of-w.ensures) ∙ sym c.from1.ensures ∙ c.if-from1.true,
+)
 
 pub returns-else-from1 : goal.returns-else-from1
 unfolding beginning_of
-returns-else-from1 c = rw (ap is_empty (sym c.unpack-a.ensures) ∙ c.if-a.false, ap (λ (w : Way). from1 w.slots w.first) (sym c.way_of-w.ensures) ∙ sym c.from1.ensures ∙ c.if-from1.false)
+returns-else-from1 c = rw (
+  ap is_empty (sym c.unpack-a.ensures) ∙ c.if-a.false,
+  ap (λ (w : Way). from1 w.slots w.first) (sym c.way_of-w.ensures) ∙ sym c.from1.ensures ∙ c.if-from1.false,
+)
