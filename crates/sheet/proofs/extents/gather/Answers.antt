@@ -23,7 +23,8 @@ module _ (c : After-leads) where
   onwards : (r : Result (Option ℕ) Unsound) → c.leads.result ≡ r
       → turned (noted c.args.w.rightward c.args.listed.now) c.args.w c.args.lefts.now c.args.rights.now c.args.labels.now c.loop.counter c.loop.x before
       c.loop-test.true c.loop.invariant.on r
-      ≡ over (noted c.args.w.rightward c.args.listed.now) (begun c.args.w.rightward c.args.seen.now) (ahead c.args.w c.args.lefts.now c.args.rights.now c.args.labels.now)
+      ≡ over (noted c.args.w.rightward c.args.listed.now) (begun c.args.w.rightward c.args.seen.now)
+      (ahead c.args.w c.args.lefts.now c.args.rights.now c.args.labels.now)
   onwards r e =
       sym (turns (noted c.args.w.rightward c.args.listed.now) c.args.w c.args.lefts.now c.args.rights.now c.args.labels.now c.loop.counter c.loop.x before
       c.loop-test.true c.loop.invariant.on r (sym e ∙ c.leads.ensures)) ∙ c.loop.invariant.notes
