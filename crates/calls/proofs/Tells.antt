@@ -11,7 +11,7 @@ use Rattle.model.specs.Refusals.{rule, first, fits, table_rules, report_rules, r
 use Rattle.model.specs.Report.{busy, report, tell, told, waiting}
 use Rattle.model.proofs.Tests.{Rules.{cleared, first-refused}, Truth.and-true}
 use Rattle.sound.specs.{declared.Lengths.Lengths, Lengths.{lengths_of, lengths_fit, tables_fit}}
-use Rattle.walk.specs.{declared.Tally.TheVariants.{Broken, Labels}, Counted.counted}
+use Rattle.walk.specs.{declared.Unsound.Unsound, Counted.counted}
 use Rattle.walk.proofs.Counting.{none-counted, all-counted}
 use Rattle.calls.specs.Telling.{countable}
 
@@ -40,11 +40,11 @@ module _ (q : Tables) (enough : Bool) (busy : ℕ) where
         let c = cleared (table_rules q.control (fits q && enough)) refl (sym e ∙ z) in
         (not-false _ c.0, not-false _ c.1.0)
 
-    pub astray : Broken ≡ counted (contents q) → Refused 34 ≡ tell q enough busy
+    pub astray : (u : Unsound) → Err u ≡ counted (contents q) → Refused 34 ≡ tell q enough busy
     unfolding tell report_refusal
-    astray f = rw (passed.0, passed.1, none-counted (contents q) f)
+    astray u f = rw (passed.0, passed.1, none-counted (contents q) u f)
 
-    pub tells : (m : ℕ) → Labels m ≡ counted (contents q)
+    pub tells : (m : ℕ) → Ok m ≡ counted (contents q)
         → Ok (record {
           anchor = (told q busy).anchor;
           busy = busy;

@@ -5,7 +5,7 @@ ghost use Rattle.calls.specs.Telling.{countable};
 
 use model::{Control, Refusal, Report, Reported};
 use sound::{Lengths, admission};
-use walk::Tally;
+use walk::Unsound;
 use word::Anchor;
 
 /// How many records the report looks at: one for each task, or none where it will be refused.
@@ -38,10 +38,9 @@ pub fn told(
     if why != 0 {
         return Err(Refusal { number: why });
     }
-    let walked = walk::waiting(c, lefts, rights);
-    match walked {
-        Tally::Broken => Err(Refusal { number: 34 }),
-        Tally::Labels(waiting) => {
+    match walk::waiting(c, lefts, rights) {
+        Err(Unsound) => Err(Refusal { number: 34 }),
+        Ok(waiting) => {
             let anchor = Anchor::unpack(c.anchor);
             let taken = marks::taken(c.slots, marks);
             Ok(Report {

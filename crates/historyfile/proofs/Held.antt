@@ -71,7 +71,7 @@ module _ (m n : ℕ) where
       where
         go : (f : Option Fault) → is_some f ≡ true
             → reading s calls order ≡ held m n
-                (cond (is_none f) (kept (turned s.place (says s.place.column (b ∷ bs))) (reading s calls order)) (reading s calls order))
+            (cond (is_none f) (kept (turned s.place (says s.place.column (b ∷ bs))) (reading s calls order)) (reading s calls order))
         go None e = absurd (true≢false (sym e))
         go (Some why) e = sym (lies_held s calls order h)
 
@@ -84,6 +84,6 @@ module _ (m n : ℕ) where
       where
         go : (f : Option Fault) → is_some f ≡ false
             → r ≡ held m n
-                (cond (is_none f) (kept (turned s.place (says s.place.column (b ∷ bs))) (reading s calls order)) (reading s calls order))
+            (cond (is_none f) (kept (turned s.place (says s.place.column (b ∷ bs))) (reading s calls order)) (reading s calls order))
         go None e = k
         go (Some why) e = absurd (true≢false e)

@@ -8,7 +8,8 @@ use Rattle.model.specs.{declared.{Control.Control, Entry.Entry}, Tables.{Queue, 
 use Rattle.model.specs.{Sound.{control_tests, control_sound}, Walk.{contents, met}}
 use Rattle.model.proofs.{Tests.Rules.tests, Bridge.Facts.from1_true}
 use Rattle.sound.specs.Lengths.{lengths_of}
-use Rattle.walk.specs.{declared.Tally.{Tally, TheVariants.{Broken, Labels}}, Counted.counted}
+use Rattle.std.specs.Prelude.{Result, Ok, Err}
+use Rattle.walk.specs.{declared.Unsound.Unsound, Counted.counted}
 use Rattle.walk.proofs.Counting.{all-counted, none-counted}
 use Rattle.layout.{specs.Rows.records_of, proofs.Rows.length_records}
 use Rattle.stock_model.specs.Accounts.{waiting_labels}
@@ -61,14 +62,14 @@ module _ (a b q : Queue) where
     unfolding control_sound
     small = (from1_true 1023 q.tables.control.slots (tests (control_tests q.tables.control) passed.2).1.0).1
 
-    first-lost : Broken ≡ counted (contents a.tables) → Admits a b q (Err 34)
+    first-lost : (u : Unsound) → Err u ≡ counted (contents a.tables) → Admits a b q (Err 34)
     unfolding closed_refusal
-    first-lost g = (rw (passed.0, passed.1, passed.2, passed.3, none-counted (contents a.tables) g), λ z. omega arith)
+    first-lost u g = (rw (passed.0, passed.1, passed.2, passed.3, none-counted (contents a.tables) u g), λ z. omega arith)
 
-    module _ (k : ℕ) (g : Labels k ≡ counted (contents a.tables)) where
-      second-lost : Broken ≡ counted (contents b.tables) → Admits a b q (Err 34)
+    module _ (k : ℕ) (g : Ok k ≡ counted (contents a.tables)) where
+      second-lost : (u : Unsound) → Err u ≡ counted (contents b.tables) → Admits a b q (Err 34)
       unfolding closed_refusal
-      second-lost h = (
+      second-lost u h = (
         rw (
           passed.0,
           passed.1,
@@ -76,12 +77,12 @@ module _ (a b q : Queue) where
           passed.3,
           (all-counted (contents a.tables) k g).0,
           none-counted
-              (contents b.tables) h,
+              (contents b.tables) u h,
         ),
         λ z. omega arith,
       )
 
-      module _ (m : ℕ) (h : Labels m ≡ counted (contents b.tables)) where
+      module _ (m : ℕ) (h : Ok m ≡ counted (contents b.tables)) where
         in_first : k ≡ length (waiting_labels a.tables)
         in_first = (all-counted (contents a.tables) k g).1 ∙ sym (length-map (met (contents a.tables)) (λ (e : Entry). e.label))
 
@@ -110,21 +111,21 @@ module _ (a b q : Queue) where
     pub lost : (why : ℕ) → Err why ≡ walked (counted (contents a.tables)) (counted (contents b.tables)) → Admits a b q (Err why)
     lost why w = go _ _ refl refl w
       where
-        go : (x y : Tally) → x ≡ counted (contents a.tables) → y ≡ counted (contents b.tables) → Err why ≡ walked x y → Admits a b q (Err why)
-        go Broken y ex ey w = subst (Admits a b q) (sym w) (first-lost ex)
-        go (Labels k) Broken ex ey w = subst (Admits a b q) (sym w) (second-lost k ex ey)
-        go (Labels k) (Labels m) ex ey w = absurd (cc)
+        go : (x y : Result ℕ Unsound) → x ≡ counted (contents a.tables) → y ≡ counted (contents b.tables) → Err why ≡ walked x y → Admits a b q (Err why)
+        go (Err u) y ex ey w = subst (Admits a b q) (sym w) (first-lost u ex)
+        go (Ok k) (Err u) ex ey w = subst (Admits a b q) (sym w) (second-lost k ex u ey)
+        go (Ok k) (Ok m) ex ey w = absurd (cc)
 
     abbrev Met : Waiting → Type 0
-    Met w = (Labels w.first ≡ counted (contents a.tables)) × (Labels w.second ≡ counted (contents b.tables))
+    Met w = (Ok w.first ≡ counted (contents a.tables)) × (Ok w.second ≡ counted (contents b.tables))
 
     pub met_all : (v : Waiting) → Ok v ≡ walked (counted (contents a.tables)) (counted (contents b.tables)) → Met v
     met_all v w = go _ _ refl refl w
       where
-        go : (x y : Tally) → x ≡ counted (contents a.tables) → y ≡ counted (contents b.tables) → Ok v ≡ walked x y → Met v
-        go Broken y ex ey w = absurd (cc)
-        go (Labels k) Broken ex ey w = absurd (cc)
-        go (Labels k) (Labels m) ex ey w = let e : record { first = k; second = m } ≡ v = cc in subst Met e (ex, ey)
+        go : (x y : Result ℕ Unsound) → x ≡ counted (contents a.tables) → y ≡ counted (contents b.tables) → Ok v ≡ walked x y → Met v
+        go (Err u) y ex ey w = absurd (cc)
+        go (Ok k) (Err u) ex ey w = absurd (cc)
+        go (Ok k) (Ok m) ex ey w = let e : record { first = k; second = m } ≡ v = cc in subst Met e (ex, ey)
 
 -- The rules before the walks, by the tests of lengths that were made.
 pub tried : (first second third : Control) (rows1 rows2 rows : List (List ℕ)) (l1 r1 b1 l2 r2 b2 l r b m m1 x1 m2 x2 x : List ℕ)

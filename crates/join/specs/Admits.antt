@@ -1,16 +1,16 @@
 -- What an admission says of the joining.
 use Rattle.std.specs.Prelude.{◌≡◌, ◌≢◌, ℕ, length, Result, Ok, Err}
 use Rattle.model.specs.Tables.{Queue}
-use Rattle.walk.specs.declared.Tally.{Tally, TheVariants.{Broken, Labels}}
+use Rattle.walk.specs.declared.Unsound.{Unsound}
 use Rattle.stock_model.specs.Accounts.{waiting_labels}
 use Rattle.join_model.specs.Closed.{closed_refusal}
 use Rattle.join.specs.declared.admit.Waiting.{Waiting}
 
 -- What the two walks say: 34 where one of them is broken, else how many labels they meet.
-abbrev pub walked : Tally → Tally → Result Waiting ℕ
-walked Broken t = Err 34
-walked (Labels n) Broken = Err 34
-walked (Labels n) (Labels m) = Ok (record { first = n; second = m })
+abbrev pub walked : Result ℕ Unsound → Result ℕ Unsound → Result Waiting ℕ
+walked (Err u) t = Err 34
+walked (Ok n) (Err u) = Err 34
+walked (Ok n) (Ok m) = Ok (record { first = n; second = m })
 
 -- No rule applies, and so many labels wait in each of the two queues.
 pub record Admitted (a b q : Queue) (w : Waiting) : Type 0 where

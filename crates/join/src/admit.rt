@@ -11,7 +11,6 @@ ghost use Rattle.join.specs.{Stages.{lengths_fit, tests_refusal, later_refusal},
 use crate::rest;
 use model::Control;
 use sound::Lengths;
-use walk::Tally;
 use word::Anchor;
 
 // The highest Anchor tag that a start is accepted at.
@@ -148,12 +147,10 @@ fn walks(
         (counted (contents (tables_of first lefts1.now rights1.now a b c)))
         (counted (contents (tables_of second lefts2.now rights2.now d e f))) }
 {
-    let one = walk::waiting(first, lefts1, rights1);
-    let two = walk::waiting(second, lefts2, rights2);
-    let Tally::Labels(n) = one else {
+    let Ok(n) = walk::waiting(first, lefts1, rights1) else {
         return Err(34);
     };
-    let Tally::Labels(m) = two else {
+    let Ok(m) = walk::waiting(second, lefts2, rights2) else {
         return Err(34);
     };
     Ok(Waiting {

@@ -8,7 +8,8 @@ use Rattle.std.specs.Prelude.{Option, Some, None}
 use Rattle.model.specs.{declared.{Call.Call, Record.Record}, Tables.{Tables, Queue, is_pooled, unused}, Report.waiting}
 use Rattle.model.specs.{Sound.{control_sound, rows_fit}, Walk.{Walk, entries, broken, contents, is_broken, met}}
 use Rattle.model.{specs.Refusals.{Rule, rule, first, table_rules, records_fit}, proofs.Tests.Truth.and-true}
-use Rattle.walk.specs.{declared.Tally.Tally, Counted.counted}
+use Rattle.std.specs.Prelude.{Result}
+use Rattle.walk.specs.{declared.Unsound.Unsound, Counted.counted}
 use Rattle.schedule_model.specs.{declared.ScheduleReply.ScheduleReply, Schedules.all_schedules}
 use Rattle.schedule_model.specs.Next.{Next, given, no_more, memory_length, remembered, first_after, storing, two_at_work}
 use Rattle.schedule_model.{specs.Next.{schedule_refusal, handing, next_schedule}, proofs.TwoRecords.two_records}
@@ -125,7 +126,7 @@ module _ (q : Tables) (rs : List Record) (n : ℕ) (a b : Call) (ws : List ℕ) 
   pub refused-before : (why : ℕ) → why ≡ before → (why ≡ 0 → ⊥) → why ≡ schedule_refusal Q ws
   refused-before why e n = sym (rules ∙ rw (sym e, ne_eqb why 0 n) refl)
 
-  pub refused-after : (first last : ℕ) (walk : Tally) → first ≡ before → first ≡ 0 → walk ≡ counted (contents q) → last ≡ refusal_after two walk
+  pub refused-after : (first last : ℕ) (walk : Result ℕ Unsound) → first ≡ before → first ≡ 0 → walk ≡ counted (contents q) → last ≡ refusal_after two walk
       → last ≡ schedule_refusal Q ws
   refused-after first last walk e z w l = sym (rules ∙ rw (sym e, z) (ap (refusal_after two) (sym w) ∙ sym l))
 

@@ -13,7 +13,7 @@ ghost use Rattle.schedule.specs.Answered.{refusal_after, Begins, Answered, answe
 use model::{Call, Control};
 use schedule_model::{Ending, ScheduleReply};
 use sound::Lengths;
-use walk::Tally;
+use walk::Unsound;
 
 /// 34 for control and Anchor, and 12. The tables and the memory are given by their lengths.
 fn unfit_tables(c: Control, memory: usize, t: Lengths) -> u32
@@ -27,13 +27,13 @@ fn unfit_tables(c: Control, memory: usize, t: Lengths) -> u32
 }
 
 /// 34 for the walk, and 42.
-fn unfit(c: Control, a: Call, b: Call, walked: Tally) -> u32
+fn unfit(c: Control, a: Call, b: Call, walked: Result<u64, Unsound>) -> u32
     ensures { result ≡ refusal_after (eqb c.tasks 2 && not (eqb a.place 0) && not (eqb b.place 0)) walked }
 {
     let two = (c.tasks == 2) & !(a.place == 0) & !(b.place == 0);
     match walked {
-        Tally::Broken => 34,
-        Tally::Labels(n) => { if two & (n <= 4) { 0 } else { 42 } }
+        Err(Unsound) => 34,
+        Ok(n) => { if two & (n <= 4) { 0 } else { 42 } }
     }
 }
 

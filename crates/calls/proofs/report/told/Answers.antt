@@ -7,13 +7,13 @@ use Rattle.calls.proofs.report.told.Goals as goal
 pub returns-then-why-ne0 : goal.returns-then-why-ne0
 returns-then-why-ne0 c = refused _ _ _ _ (found _ _ c.args.busy _ _ _ (c.of-t.ensures c.args.c) refl c.table_refusal-why.ensures) c.if-why-ne0.true
 
-pub returns-in-Broken : goal.returns-in-Broken
-returns-in-Broken c =
+pub returns-in-Err : goal.returns-in-Err
+returns-in-Err c =
     astray _ _ _ _ (found _ _ c.args.busy _ _ _ (c.of-t.ensures c.args.c) refl c.table_refusal-why.ensures) c.if-why-ne0.false
-    (sym c.in-Broken.is ∙ c.waiting-walked.ensures c.args.labels.now c.args.marks.now c.args.next.now)
+    (sym c.in-Err.is ∙ c.waiting.ensures c.args.labels.now c.args.marks.now c.args.next.now)
 
-pub returns-in-Labels : goal.returns-in-Labels
-returns-in-Labels c =
+pub returns-in-Ok : goal.returns-in-Ok
+returns-in-Ok c =
     rw (c.unpack-anchor.ensures, c.taken-taken.ensures)
-    (tells _ _ _ _ (found _ _ c.args.busy _ _ _ (c.of-t.ensures c.args.c) refl c.table_refusal-why.ensures) c.if-why-ne0.false c.in-Labels.waiting
-    (sym c.in-Labels.is ∙ c.waiting-walked.ensures c.args.labels.now c.args.marks.now c.args.next.now))
+    (tells _ _ _ _ (found _ _ c.args.busy _ _ _ (c.of-t.ensures c.args.c) refl c.table_refusal-why.ensures) c.if-why-ne0.false c.in-Ok.waiting
+    (sym c.in-Ok.is ∙ c.waiting.ensures c.args.labels.now c.args.marks.now c.args.next.now))

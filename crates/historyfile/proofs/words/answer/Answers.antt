@@ -15,11 +15,11 @@ six w a b c d e f h k i j l m n o =
 pub returns-in-pushed : goal.returns-in-pushed
 returns-in-pushed c =
     let e : c.args.word.now ≡ ascii "pushed" = six c.args.word.now 112 117 115 104 101 100
-        (search rules) (search rules) (search rules) (search rules) (search rules) (search rules) (search rules) (search rules) in
+    (search rules) (search rules) (search rules) (search rules) (search rules) (search rules) (search rules) (search rules) in
     rw e
 
 pub returns-in-popped : goal.returns-in-popped
 returns-in-popped c =
     let e : c.args.word.now ≡ ascii "popped" = six c.args.word.now 112 111 112 112 101 100
-        (search rules) (search rules) (search rules) (search rules) (search rules) (search rules) (search rules) (search rules) in
+    (search rules) (search rules) (search rules) (search rules) (search rules) (search rules) (search rules) (search rules) in
     rw e
