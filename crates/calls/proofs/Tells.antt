@@ -1,5 +1,5 @@
 -- The report is told or refused: by control or lengths before the walk, by the walk, or not at all.
-use Rattle.std.specs.Prelude.{Ok}
+use Rattle.std.specs.Prelude.{Ok, Err}
 use mathlib.Core.{Path.{◌≡◌, refl, sym, ap, ◌∙◌}, Bool.{Bool, true, false, ◌&&◌, not, cond}, List.{[], ◌∷◌}}
 use Prim.Native.Nat.{ℕ}
 use lib.{Dec.{eqb, leb}, ListN.length}

@@ -1,9 +1,11 @@
 -- The walk from either end finds the positions.
 use mathlib.Core.{Path.{◌≡◌, refl, sym, ap, subst, ◌∙◌}, Bool.{Bool, true, false}}
-use mathlib.Core.List.{List, [], ◌∷◌, map}
+use mathlib.Core.List.{List, [], ◌∷◌, ◌++◌, append-nil, map}
 use Prim.Native.Nat.{ℕ, zero, suc, ◌+◌, ◌<◌, ◌≤◌}
 use native.Mathlib.Omega.{arith}
-use lib.ListN.{length, get_or, length-reverse, replicate}
+use lib.ListN.{length, get_or, length-reverse, replicate, drop_of_length-le}
+use borrow.Author.Tests.{le-leb}
+use Rattle.table.specs.Filling.{filling}
 use Rattle.model.specs.{declared.Entry.Entry, Walk.{Walk, broken, entries}}
 use Rattle.std.specs.Prelude.{Ok}
 use Rattle.walk.specs.{declared.Way.Way, Ways.turned_back}
@@ -57,6 +59,13 @@ module _ (foremost : Bool) (wanted : List ℕ) (n : ℕ) (ps : List ℕ) where
       subst (λ (qs : List ℕ). get_or qs i 0 ≤ n) (sym (noted_are l e))
       (omega (arith, rows_are l e, notes_most foremost wanted 0 blank l (λ j. omega (arith, zeros 32 j)) i))
   within broken e i = absurd (let z : ◌≡◌ {A = ℕ} 0 1 = cc in omega arith)
+
+-- The positions zeroed.
+pub blanked : (ps : List ℕ) → length ps ≡ 32 → filling 32 0 ps ≡ blank
+unfolding filling
+blanked ps e =
+    rw (le-leb 32 (length ps) (omega arith))
+    (ap (λ (l : List ℕ). replicate 32 0 ++ l) (drop_of_length-le ps {i = 32} (omega arith)) ∙ append-nil (replicate 32 0))
 
 -- Where nothing waits nothing is found, nor in a broken walk.
 pub none_found : (wanted : List ℕ) → length wanted ≤ 32 → refused 0 ≡ found [] wanted

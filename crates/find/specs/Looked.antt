@@ -34,10 +34,10 @@ abbrev pub found_in : Walk → List ℕ → FindReply
 found_in (entries l) wanted = found l wanted
 found_in broken wanted = refused 34
 
--- What is answered: the rows, with the positions noted, or 34.
+-- What is answered: the rows or 34, with the positions that are left.
 abbrev pub answered : Result ℕ Unsound → List ℕ → FindReply
 answered (Ok n) ps = record { code = 0; rows = n; positions = ps }
-answered (Err u) ps = refused 34
+answered (Err u) ps = record { code = 34; rows = 0; positions = ps }
 
 -- The refusals before the walk, over tests already made.
 unfoldable pub refusal_before : Bool → Bool → Bool → ℕ

@@ -153,7 +153,7 @@ fn refusal(
     0
 }
 
-/// Of the labels waiting: the rows, with the positions noted.
+/// Of the labels waiting: the rows, with the positions noted; no positions where a walk is unsound.
 fn search(
     c: Control,
     lefts: &[u64],
@@ -170,7 +170,10 @@ fn search(
         return Ok(0);
     };
     let mut sieve: [u64; 16] = [0; 16];
-    let rows = look(w, lefts, rights, labels, wanted, &mut sieve, positions)?;
+    let Ok(rows) = look(w, lefts, rights, labels, wanted, &mut sieve, positions) else {
+        table::fill(positions, 32, 0);
+        return Err(Unsound);
+    };
     if !w.rightward {
         turn(rows, wanted.len(), positions);
     }
@@ -202,15 +205,13 @@ pub extern "C" fn zc_find(
         };
     }
     let mut positions: [u64; 32] = [0; 32];
-    let Ok(rows) = search(c, lefts, rights, labels, wanted, &mut positions) else {
-        return FindReply {
-            code: 34,
-            rows: 0,
-            positions: [0; 32],
-        };
+    // One answer for both ends of the search: where each makes its own, the call takes 632 bytes of stack for 504.
+    let (code, rows) = match search(c, lefts, rights, labels, wanted, &mut positions) {
+        Ok(rows) => (0, rows),
+        Err(Unsound) => (34, 0),
     };
     FindReply {
-        code: 0,
+        code,
         rows,
         positions,
     }

@@ -1,8 +1,9 @@
 -- Refused before the walk, by it, or found.
-use Rattle.std.proofs.Common.{◌≡◌, refl, sym, ap, ◌∙◌, ℕ, List, []}
+use Rattle.std.proofs.Common.{◌≡◌, refl, sym, ap, ◌∙◌, ℕ, List, [], Result}
 use Rattle.model.specs.{declared.Control.Control, Tables.{Tables, tables_of}}
 use Rattle.layout.specs.Rows.{control_of}
-use Rattle.walk.{specs.Ways.{beginning_of}, proofs.Along.waits}
+use Rattle.walk.{specs.{declared.Unsound.Unsound, Ways.beginning_of}, proofs.Along.waits}
+use Rattle.find.specs.Looked.{answered}
 use Rattle.find_model.specs.{declared.FindReply.FindReply, Find.{find}}
 use Rattle.find.proofs.Finding.{turned_away, few, finds}
 use Rattle.find.proofs.zc_find.Goals as goal
@@ -32,16 +33,16 @@ search-requires c =
     let r = (goal.at.search-requires c).After-refusal-why in
     (few (tables r []) c.args.wanted.now _ (c.refusal-why.ensures []) c.if-why-ne0.false, refl)
 
-pub returns : goal.returns
-returns c next =
-    let r = (goal.at.returns c).After-refusal-why in
+pub returns-in-Ok : goal.returns-in-Ok
+returns-in-Ok c next =
+    let r = (goal.at.returns-in-Ok c).After-refusal-why in
     let q = tables r next in
-    answers r next _ (c.in-Ok.ensures
+    answers r next _ (ap (λ (x : Result ℕ Unsound). answered x c.search.new.positions) (sym c.in-Ok.is) ∙ c.search.ensures
     ∙ finds q c.args.wanted.now _ (c.refusal-why.ensures next) c.if-why-ne0.false _ (waits q (beginning_of q.control) refl))
 
-pub returns-in_default : goal.returns-in_default
-returns-in_default c next =
-    let r = (goal.at.returns-in_default c).After-refusal-why in
+pub returns-in-Err : goal.returns-in-Err
+returns-in-Err c next =
+    let r = (goal.at.returns-in-Err c).After-refusal-why in
     let q = tables r next in
-    answers r next _ (c.in_default.ensures
+    answers r next _ (ap (λ (x : Result ℕ Unsound). answered x c.search.new.positions) (sym c.in-Err.is) ∙ c.search.ensures
     ∙ finds q c.args.wanted.now _ (c.refusal-why.ensures next) c.if-why-ne0.false _ (waits q (beginning_of q.control) refl))

@@ -9,7 +9,7 @@ returns-then-why-ne0 c = refused _ _ _ _ (found _ _ c.args.busy _ _ _ (c.of-t.en
 
 pub returns-in-Err : goal.returns-in-Err
 returns-in-Err c =
-    astray _ _ _ _ (found _ _ c.args.busy _ _ _ (c.of-t.ensures c.args.c) refl c.table_refusal-why.ensures) c.if-why-ne0.false
+    astray _ _ _ _ (found _ _ c.args.busy _ _ _ (c.of-t.ensures c.args.c) refl c.table_refusal-why.ensures) c.if-why-ne0.false _
     (sym c.in-Err.is ∙ c.waiting.ensures c.args.labels.now c.args.marks.now c.args.next.now)
 
 pub returns-in-Ok : goal.returns-in-Ok
