@@ -1,7 +1,7 @@
 -- What a step is refused by for what it touches, as the code asks it.
 use Rattle.std.specs.Prelude.{Err, Ok}
 use Rattle.std.specs.Prelude.{cond, ℕ}
-use Rattle.model.specs.Outcomes.{Moved, Outcome, Refused}
+use Rattle.model.specs.Outcomes.{Outcome}
 use Rattle.model.specs.declared.{Control.Control, Call.Call}
 use Rattle.model.specs.{Tables.Tables, Places.word_found, Refusals.step_sound}
 use Rattle.decide.specs.Ending.{change_refused}

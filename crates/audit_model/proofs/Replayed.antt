@@ -6,7 +6,7 @@ use Prim.Native.Nat.{ℕ, suc, ◌<◌, ◌≤◌}
 use native.Mathlib.Omega.{arith}
 use lib.{Dec.eqb, ListN.length}
 use Rattle.model.specs.declared.{Answer.Answer, Entry.Entry, Op.{Op, TheVariants.{Push, Pop, PushPooled, Step}}}
-use Rattle.model.specs.Outcomes.{Moved, Outcome, Refused}
+use Rattle.model.specs.Outcomes.{Outcome}
 use Rattle.model.specs.{Lists.All}
 use Rattle.model.specs.Deque.{Served, says_no_free_slot, serve, serve_for, serve_pop, serve_push, take_first, seen_from}
 use Rattle.model.specs.History.{LedgerCall, Effect, Ending, Event, Ledger, accept, attend, begins, continued, ended}

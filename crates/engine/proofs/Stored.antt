@@ -2,7 +2,7 @@
 use Rattle.std.specs.Prelude.{Err, Ok}
 use mathlib.Core.{Path.{◌≡◌, refl, sym, ap, ap₂, subst, ◌∙◌}, Bool.{true, false}, List.List}
 use Prim.Native.Nat.{ℕ, ◌≤◌}
-use Rattle.model.specs.Outcomes.{Moved, Outcome, Refused}
+use Rattle.model.specs.Outcomes.{Outcome}
 use Rattle.model.specs.declared.{Control.Control, Call.Call, Record.Record, Transition.Transition}
 use Rattle.model.specs.{Tables.{Tables, tables_of, counting, idle, of_kind, with_call, with_own, with_words}, Route.counted}
 use Rattle.model.{specs.{Calls.Acted, Ends.{ends_call, is_moved}}, proofs.Tests.Truth.{split, not_both}}

@@ -4,7 +4,7 @@ use mathlib.Core.{Bool.{Bool, true, false, ◌&&◌, ◌||◌, not, cond}, List.
 use Rattle.std.specs.Prelude.{ℕ, zero, suc, ◌+◌, ◌/◌}
 use lib.{Dec.{ltb, eqb}, ListN.{length, get_or, replicate}}
 use Rattle.word.specs.{declared.Anchor.Anchor, Anchor.anchor_of}
-use Rattle.model.specs.Outcomes.{Moved, Outcome, Refused}
+use Rattle.model.specs.Outcomes.{Outcome}
 use Rattle.model.specs.declared.Op.TheVariants.{Push, Step}
 use Rattle.model.specs.{Tables.{Queue, is_pooled}, Sound.control_sound, Report.busy, Sides.is_empty, Lists.every}
 use Rattle.model.specs.{Walk.{contents, is_broken}, Refusals.{Rule, rule, first, records_fit}}

@@ -5,7 +5,7 @@ use mathlib.Core.{Bool.{Bool, true, false, cond}, List.{List, [], ◌∷◌, ◌
 use native.Mathlib.Omega.{arith}
 use lib.{Dec.ltb, ListN.{length, length-append}}
 use Rattle.model.specs.Refusals.{malformed}
-use Rattle.model.specs.Outcomes.{Moved, Opened, Opening, Outcome, Refused}
+use Rattle.model.specs.Outcomes.{Opening, Outcome}
 use Rattle.model.specs.declared.{Entry.Entry, Op.Op}
 use Rattle.model.specs.declared.Answer.{Answer, TheVariants.{Running, Pushed, Empty, Popped, NoFreeSlot}}
 use Rattle.model.specs.declared.Op.TheVariants as op

@@ -3,7 +3,7 @@ use Rattle.std.specs.Prelude.{Err, Ok}
 use Rattle.std.specs.Prelude.{ℕ, zero, suc, ◌+◌, ◌/◌, ◌%◌, ◌^◌}
 use mathlib.Core.{Path.◌≡◌, Bool.cond, List.{List, [], ◌∷◌, ◌++◌}}
 use lib.{ListN.length, Seq.sets, Dec.{ltb, leb}}
-use Rattle.model.specs.Outcomes.{Moved, Opened, Opening, Outcome, Refused}
+use Rattle.model.specs.Outcomes.{Opening, Outcome}
 use Rattle.model.specs.declared.{Entry.Entry, Op.Op}
 use Rattle.model.specs.declared.Answer.{Answer, TheVariants.{Running, Pushed, Empty, Popped, NoFreeSlot}}
 use Rattle.model.specs.Refusals.{malformed}

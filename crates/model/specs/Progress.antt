@@ -2,7 +2,7 @@
 use Rattle.std.specs.Prelude.{Err, Ok}
 use mathlib.Core.{Bool.{Bool, true, false, ◌||◌, cond}, List.{List, [], ◌∷◌}, Logic.◌≢◌, Path.◌≡◌}
 use Rattle.std.specs.Prelude.{ℕ, zero, suc, ◌+◌, ◌*◌, ◌<◌, ◌≤◌, eqb}
-use Rattle.model.specs.Outcomes.{Moved, Outcome, Refused}
+use Rattle.model.specs.Outcomes.{Outcome}
 use Rattle.model.specs.Ends.{answer_ends, ends_call}
 use Rattle.model.specs.{declared.Op.{Op, TheVariants.{Push, Pop, PushPooled, Step}}, Solo.{SoloDone, solo_run}}
 use Rattle.model.specs.Tables.{Queue, is_pooled, record_at}

@@ -6,7 +6,7 @@ use mathlib.Core.List.{List, [], ◌∷◌, ◌++◌, Memᴰ}
 use Prim.Native.Nat.{ℕ, zero, suc, ◌<◌}
 use native.Mathlib.Omega.{arith}
 use lib.{Dec.{eqb-suc-suc, eqb-zero-suc}, ListN.length}
-use Rattle.model.specs.Outcomes.{Moved, Outcome, Refused}
+use Rattle.model.specs.Outcomes.{Outcome}
 use Rattle.model.specs.{declared.Op.TheVariants.Step, Tables.Queue}
 use Rattle.model.specs.{Calls.act, History.final}
 use Rattle.schedule_model.specs.Schedules.{Schedule, ends, begun, at_work, both_answered, onwards, through}

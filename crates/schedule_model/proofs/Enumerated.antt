@@ -6,7 +6,7 @@ use Prim.Native.Nat.{ℕ, zero, suc, ◌+◌, ◌<◌, ◌≤◌}
 use native.Mathlib.{Nat.{zero-add, suc-add}, Omega.arith}
 use lib.{ListN.{length, get_or, drop, replicate}, Seq.{sets-eq, length-sets, take-append_seam}}
 use borrow.Author.Tests.{le-leb, ne_eqb}
-use Rattle.model.specs.Outcomes.{Moved, Outcome, Refused}
+use Rattle.model.specs.Outcomes.{Outcome}
 use Rattle.model.specs.{declared.Op.TheVariants.Step, Tables.Queue}
 use Rattle.model.{specs.{Calls.act, Lists.All}, proofs.Lists.All.{all_map, all_append}}
 use Rattle.schedule_model.specs.Schedules.{Schedule, ends, begun, at_work, both_answered, onwards, through}

@@ -4,7 +4,7 @@ use mathlib.Core.{Path.{◌≡◌, refl}, Bool.{Bool, true, false, cond}, List.{
 use Prim.Native.Nat.{ℕ, zero, suc}
 use native.Mathlib.Omega.{arith}
 use borrow.Author.Tests.{le-ltb, eq-eqb}
-use Rattle.model.specs.Outcomes.{Moved, Outcome, Refused}
+use Rattle.model.specs.Outcomes.{Outcome}
 use Rattle.model.specs.{declared.Op.TheVariants.Step, Tables.Queue}
 use Rattle.model.{specs.{Calls.act, Lists.All}, proofs.Lists.All.{all_map, all_append}}
 use Rattle.schedule_model.specs.Schedules.{Schedule, ends, begun, at_work, both_answered, onwards, through}

@@ -5,7 +5,7 @@ use Prim.Native.Nat.{ℕ, zero, suc, ◌<◌}
 use native.Mathlib.Omega.{arith}
 use lib.Dec.{eqb}
 use borrow.Author.Tests.{eqb-true}
-use Rattle.model.specs.Outcomes.{Moved, Outcome, Refused}
+use Rattle.model.specs.Outcomes.{Outcome, Refused}
 use Rattle.model.specs.declared.{Entry.Entry, Op.TheVariants.Step}
 use Rattle.model.specs.{Tables.Queue, Walk.is_broken, Standing.Standing, Lists.All, Calls.{act, open_as}}
 use Rattle.model.specs.History.{Event, NeverUnsound, Request, final, run}

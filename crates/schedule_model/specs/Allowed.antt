@@ -3,7 +3,7 @@ use Rattle.std.specs.Prelude.{Err, Ok}
 use mathlib.Core.{Path.◌≡◌, Bool.{Bool, true, false, ◌||◌, cond}, List.{List, [], ◌∷◌, ◌++◌, Memᴰ}}
 use Rattle.std.specs.Prelude.{ℕ, ◌<◌}
 use lib.{Dec.eqb, ListN.length}
-use Rattle.model.specs.Outcomes.{Moved, Outcome, Refused}
+use Rattle.model.specs.Outcomes.{Outcome}
 use Rattle.model.specs.{declared.Op.TheVariants.Step, Tables.Queue}
 use Rattle.model.specs.{Calls.act, History.{Request, final}}
 use Rattle.schedule_model.specs.Schedules.{Schedule, answered_both, was_cut, was_refused, at_work, both_answered}

@@ -2,7 +2,7 @@
 use Rattle.std.specs.Prelude.{Err, Ok}
 use mathlib.Core.{Bool.{Bool, ◌||◌, not, cond}, List.{List, [], ◌∷◌, ◌++◌, map}}
 use Rattle.std.specs.Prelude.{ℕ, zero, suc}
-use Rattle.model.specs.Outcomes.{Moved, Outcome, Refused}
+use Rattle.model.specs.Outcomes.{Outcome}
 use Rattle.model.specs.{declared.Op.TheVariants.Step, Calls.act}
 use Rattle.model.specs.{Tables.{Queue, record_at}, Refusals.is_busy}
 

@@ -5,7 +5,7 @@ use mathlib.Core.List.{List, [], ◌∷◌}
 use Prim.Native.Nat.{ℕ, suc, ◌+◌, ◌-◌, ◌<◌, ◌≤◌}
 use native.Mathlib.Omega.{arith}
 use lib.{Dec.eqb, ListN.{length, get_or, set}, Seq.{sets, set_comm, set-get_or, set-set}}
-use Rattle.model.specs.Outcomes.{Moved, Outcome, Refused}
+use Rattle.model.specs.Outcomes.{Outcome}
 use Rattle.model.specs.declared.{Call.Call, Record.Record}
 use Rattle.model.specs.{Tables.{Tables, Queue, tables_of, task_at, unused}, Ends.is_moved, Places.{row, word_found}}
 use Rattle.model.{specs.{Refusals.step_sound, Calls.{Acted, finish, Done, back}}, proofs.Tests.Truth.either}

@@ -7,7 +7,7 @@ use native.Mathlib.Omega.{arith}
 use lib.{Dec.eqb, ListN.length}
 use borrow.Author.Tests.{eqb-false, eqb-true}
 use Rattle.model.specs.declared.{Answer.Answer, Entry.Entry, Op.{Op, TheVariants.{Push, Pop, PushPooled, Step}}}
-use Rattle.model.specs.Outcomes.{Moved, Outcome, Refused}
+use Rattle.model.specs.Outcomes.{Outcome}
 use Rattle.model.specs.Lists.{All, copies}
 use Rattle.model.specs.Deque.{Served, seen_from, serve, serve_for, serve_pop, serve_push, take_first}
 use Rattle.model.specs.History.{LedgerCall, Effect, Event, Ledger, accept, attend, is_effect, is_open, lacks_slot, note}

@@ -1,8 +1,8 @@
 -- A table whose first i entries are overwritten, and one entry more.
-use mathlib.Core.{Path.{◌≡◌, refl, sym, ap, subst, ◌∙◌}, List.{List, [], ◌∷◌, ◌++◌}}
-use Prim.Native.Nat.{ℕ, zero, suc, ◌+◌, ◌<◌, ◌≤◌}
-use native.Mathlib.{Nat.{not-suc-le-zero, le_of_suc-le-suc}, Numerals.add-one, Omega.arith}
-use lib.ListN.{length, set, drop, replicate, length-set}
+use mathlib.Core.{Path.{◌≡◌, refl, ap, ◌∙◌}, List.{List, [], ◌∷◌}}
+use Prim.Native.Nat.{ℕ, zero, suc, ◌+◌, ◌<◌}
+use native.Mathlib.{Nat.{not-suc-le-zero, le_of_suc-le-suc}, Numerals.add-one}
+use lib.ListN.{length, set, length-set}
 use Rattle.model.specs.Lists.{zeroed}
 
 module _ {A : Type 0} (v : A) where

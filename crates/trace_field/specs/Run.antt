@@ -1,7 +1,7 @@
 -- A run of the queue, and the lines that it prints. (Document 01: The run file and its trace.)
 use mathlib.Core.{Bool.{Bool, true, false, not}, List.{List, [], ◌∷◌, ◌++◌, map}}
 use Rattle.std.specs.Prelude.{ℕ, ◌+◌, ◌%◌, ◌^◌, take, drop, Result, Ok, Err}
-use Rattle.model.specs.Outcomes.{Opened, Opening, Refused}
+use Rattle.model.specs.Outcomes.{Opening}
 use Rattle.model.specs.{declared.Op.Op, Tables.Queue, Calls.open_as}
 use Rattle.model.specs.History.{Request, Event, run, final}
 use Rattle.lines.specs.Line.{line_of}

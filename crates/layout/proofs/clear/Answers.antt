@@ -1,4 +1,4 @@
-use Rattle.std.proofs.Common.{rules, arith, ◌≡◌, ◌<◌, ℕ, List, set, length, min, ap, ◌∙◌, refl}
+use Rattle.std.proofs.Common.{arith, ◌≡◌, ◌<◌, ℕ, List, set, length, min, ap, ◌∙◌, refl}
 use lib.ListN.{length-set}
 use Rattle.model.specs.{declared.Record.Record, Tables.unused, Lists.zeroed}
 use Rattle.layout.specs.Rows.{call_of, record_of, records_of, upper_of, uppers_of}

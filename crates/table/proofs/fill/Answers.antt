@@ -1,4 +1,4 @@
-use Rattle.std.proofs.Common.{rules, arith, refl, ◌∙◌, ap, ◌≡◌}
+use Rattle.std.proofs.Common.{arith, refl, ◌∙◌, ap, ◌≡◌}
 use borrow.Author.Tests.{le-leb, lt-leb}
 use Rattle.model.specs.Lists.{zeroed}
 use Rattle.table.specs.Filling.{filling}

@@ -1,6 +1,5 @@
 -- Refused before the walk, by the walk, or told: what each call ensures.
 use mathlib.Core.Path.{refl, sym, ◌∙◌}
-use borrow.Author.Rules.{rules}
 use Rattle.calls.proofs.Tells.{found, refused, astray, tells}
 use Rattle.calls.proofs.report.told.Goals as goal
 

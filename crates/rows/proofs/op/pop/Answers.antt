@@ -1,5 +1,4 @@
 -- The start, and its record stored.
-use borrow.Author.Rules.{rules}
 use Rattle.model.specs.{Calls.act_on, Tables.tables_of}
 use Rattle.sound.proofs.Measured.{measures}
 use Rattle.calls.proofs.Starts.{pop_begun}

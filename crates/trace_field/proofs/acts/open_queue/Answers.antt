@@ -1,5 +1,5 @@
 -- The opening's parts with the records cleared are the opening; then its line.
-use Rattle.std.proofs.Common.{◌≡◌, ◌≤◌, length, refl, sym, ap, ◌∙◌, subst}
+use Rattle.std.proofs.Common.{◌≤◌, length, refl, sym, ◌∙◌, subst}
 use Rattle.calls.{specs.Opening.OpenedParts, proofs.Openings.clear-fits}
 use Rattle.layout.proofs.Rows.{length_records, all-zeroed}
 use Rattle.lines.proofs.Puts.{put-fits}
