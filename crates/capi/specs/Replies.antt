@@ -3,7 +3,7 @@ use Rattle.std.specs.Prelude.{Err, Ok}
 use mathlib.Core.{Bool.{Bool, not, cond}, List.List}
 use Rattle.std.specs.Prelude.{ℕ}
 use lib.{Dec.{eqb, ltb}, ListN.{get_or, replicate, set}}
-use Rattle.model.specs.Outcomes.{Opened, Opening, Outcome, Refused, Reported}
+use Rattle.model.specs.Outcomes.{Opening, Outcome, Reported}
 use Rattle.model.specs.declared.{Reply.Reply, Record.Record}
 use Rattle.model.specs.{Tables.{Queue, unused}, Report.report_code, Calls.{OpenDone, Done, opening_code, reply_of}}
 use Rattle.model.specs.Lists.{count, zeroed, listed}

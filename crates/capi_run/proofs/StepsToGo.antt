@@ -6,7 +6,7 @@ use native.Mathlib.Omega.{arith}
 use lib.{Dec.eqb, ListN.set}
 use borrow.Author.Tests.{eq-eqb, ne_eqb}
 use Rattle.model.specs.declared.{Answer.TheVariants.{Running, Pushed, Empty, Popped, NoFreeSlot}, Op.TheVariants.Step}
-use Rattle.model.specs.Outcomes.{Moved, Outcome, Refused}
+use Rattle.model.specs.Outcomes.{Moved, Outcome}
 use Rattle.model.specs.Tables.{Queue, record_at}
 use Rattle.model.specs.{Calls.{Done, act}, Ends.{is_moved, is_running, ends_call}}
 use Rattle.model.specs.Solo.{SoloDone, last_step, one_more, resting, solo_run, solo_steps}

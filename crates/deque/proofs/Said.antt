@@ -4,7 +4,7 @@ use Prim.Native.Nat.{ℕ, ◌<◌, ◌≤◌}
 use native.Mathlib.Omega.{arith}
 use lib.{ListN.{length, set}, Seq.set-get_or}
 use borrow.Author.Tests.{leb-true, ltb-true}
-use Rattle.model.specs.Outcomes.{Outcome, Refused}
+use Rattle.model.specs.Outcomes.{Refused}
 use Rattle.model.specs.declared.{Control.Control, Record.Record}
 use Rattle.model.specs.{declared.Op.TheVariants.Step, Tables.{Tables, Queue, tables_of, task_at, unused, is_pooled}, Sound.rows_fit}
 use Rattle.model.specs.{Refusals.{among, admission}, Calls.{Acted, Done, back, act, act_on}}

@@ -6,7 +6,7 @@ use native.Mathlib.Omega.{arith}
 use lib.{Dec.eqb, ListN.{replicate, drop, set}}
 use borrow.Author.Tests.{eqb-true}
 use Rattle.model.specs.{declared.{Op.{Op, TheVariants.{Push, Pop, PushPooled, Step}}, Record.Record}, Lists.zeroed}
-use Rattle.model.specs.Outcomes.{Moved, Outcome, Refused}
+use Rattle.model.specs.Outcomes.{Outcome}
 use Rattle.model.specs.Tables.{Tables, Queue, record_at}
 use Rattle.model.specs.Refusals.{among, push_refusal, push_pooled_refusal, pop_refusal, step_refusal}
 use Rattle.model.specs.Calls.{Acted, decide, push_start, push_pooled_start, pop_start, step, act_on, act}

@@ -3,7 +3,7 @@ use Rattle.std.specs.Prelude.{Err, Ok}
 use mathlib.Core.{Bool.{Bool, true, cond}, List.{List, [], ◌∷◌, ◌++◌}, Path.◌≡◌}
 use Rattle.std.specs.Prelude.{ℕ}
 use lib.{Dec.eqb, Seq.sets, ListN.{length, set}}
-use Rattle.model.specs.Outcomes.{Opened, Opening, Refused}
+use Rattle.model.specs.Outcomes.{Opening}
 use Rattle.model.specs.{Tables.Queue, Retries.SumIsOld}
 use Rattle.model.specs.{Lists.zeroed, Calls.{OpenDone, open_as, opening_code}}
 use Rattle.model.specs.History.{Request, Event, run, final, Linearized, NeverUnsound, NoFreeSlotTrue}

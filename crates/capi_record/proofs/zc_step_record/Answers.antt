@@ -1,5 +1,4 @@
 -- Not admitted: the number alone. Admitted: the record is moved on in its row.
-use borrow.Author.Rules.{rules}
 use Rattle.capi_record.proofs.Alone.{refused, stepped}
 use Rattle.capi_record.proofs.zc_step_record.Goals as goal
 

@@ -1,6 +1,5 @@
 -- Turned away by its number alone, or moved on.
 use mathlib.Core.Path.{sym, ◌∙◌}
-use borrow.Author.Rules.{rules}
 use Rattle.model.specs.{Refusals.alone, Calls.step_lent, Tables.tables_of}
 use Rattle.sound.proofs.Measured.{found_by}
 use Rattle.engine.proofs.InParts.{turned_away, admitted}
