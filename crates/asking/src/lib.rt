@@ -99,14 +99,7 @@ pub fn refusal(
         (tables_of c lefts.now rights.now labels.now marks.now next.now)
         (record { enough = leb c.tasks records; known = ltb task c.tasks }) r }
 {
-    let t = Lengths {
-        records,
-        lefts: lefts.len(),
-        rights: rights.len(),
-        labels: labels.len(),
-        marks: marks.len(),
-        next: next.len(),
-    };
+    let t = Lengths::of(records, lefts, rights, labels, marks, next);
     let why = admission::admit_step(c, task, t);
     if why != 0 {
         return why;

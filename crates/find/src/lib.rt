@@ -133,14 +133,7 @@ fn refusal(
     ensures { (next : List ℕ) → result ≡ refusal_before (control_sound c) (ltb 32 (length wanted.now)) (rows_fit false c.slots
         (tables_of c lefts.now rights.now labels.now marks.now next)) }
 {
-    let t = Lengths {
-        records: 0,
-        lefts: lefts.len(),
-        rights: rights.len(),
-        labels: labels.len(),
-        marks: marks.len(),
-        next: 0,
-    };
+    let t = Lengths::of(0, lefts, rights, labels, marks, &[]);
     if !sound::control_sound(c) {
         return 34;
     }

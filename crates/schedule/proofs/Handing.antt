@@ -9,6 +9,7 @@ use Rattle.model.specs.{declared.{Call.Call, Record.Record}, Tables.{Tables, Que
 use Rattle.model.specs.{Sound.{control_sound, rows_fit}, Walk.{Walk, entries, broken, contents, is_broken, met}}
 use Rattle.model.{specs.Refusals.{Rule, rule, first, table_rules, records_fit}, proofs.Tests.Truth.and-true}
 use Rattle.std.specs.Prelude.{Result}
+use Rattle.sound.specs.{declared.Lengths.Lengths, Lengths.{lengths_of, lengths_fit, tables_fit}}
 use Rattle.walk.specs.{declared.Unsound.Unsound, Counted.counted}
 use Rattle.schedule_model.specs.{declared.ScheduleReply.ScheduleReply, Schedules.all_schedules}
 use Rattle.schedule_model.specs.Next.{Next, given, no_more, memory_length, remembered, first_after, storing, two_at_work}
@@ -122,6 +123,11 @@ module _ (q : Tables) (rs : List Record) (n : ℕ) (a b : Call) (ws : List ℕ) 
       rw (fit_is, two_is)
       (first_part (control_sound q.control) fit (rule 34 (is_broken (contents q)) ∷ rule 42 (not (two && leb (length (met (contents q))) 4)) ∷ [])
       ∙ ap (λ (k : ℕ). cond (eqb before 0) k before) (last-part two (contents q)))
+
+  -- The number found by the lengths is that of the tables.
+  pub found : (why : ℕ) (t : Lengths) → t ≡ lengths_of q n → why ≡ first (table_rules q.control (tables_fit q.control t && leb 49 (length ws))) → why ≡ before
+  unfolding lengths_fit rows_fit
+  found why t m e = e ∙ ap (λ (l : Lengths). first (table_rules q.control (tables_fit q.control l && leb 49 (length ws)))) m
 
   pub refused-before : (why : ℕ) → why ≡ before → (why ≡ 0 → ⊥) → why ≡ schedule_refusal Q ws
   refused-before why e n = sym (rules ∙ rw (sym e, ne_eqb why 0 n) refl)

@@ -54,14 +54,7 @@ fn refusal(
         → result ≡ schedule_refusal (queue_of c rs lefts.now rights.now labels.now marks.now next.now)
         given.now }
 {
-    let t = Lengths {
-        records,
-        lefts: lefts.len(),
-        rights: rights.len(),
-        labels: labels.len(),
-        marks: marks.len(),
-        next: next.len(),
-    };
+    let t = Lengths::of(records, lefts, rights, labels, marks, next);
     let why = unfit_tables(c, given.len(), t);
     if why != 0 {
         return why;

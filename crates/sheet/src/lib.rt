@@ -69,14 +69,7 @@ fn asked(
         (rows_fit false c.slots (tables_of c lefts.now rights.now labels.now marks.now next) && room))
         (extents (beginning_of c) listed.now lefts.now rights.now labels.now seen.old) }
 {
-    let t = Lengths {
-        records: 0,
-        lefts: lefts.len(),
-        rights: rights.len(),
-        labels: labels.len(),
-        marks: marks.len(),
-        next: 0,
-    };
+    let t = Lengths::of(0, lefts, rights, labels, marks, &[]);
     let fits = sound::rows_fit(false, c.slots, t);
     let why = unfit(c, listed, rules, fits & room);
     if why != 0 {

@@ -114,14 +114,7 @@ fn read_out(
         (tables_of c lefts.now rights.now labels.now marks.now next)
         slots.old copies.old }
 {
-    let t = Lengths {
-        records: 0,
-        lefts: lefts.len(),
-        rights: rights.len(),
-        labels: labels.len(),
-        marks: marks.len(),
-        next: 0,
-    };
+    let t = Lengths::of(0, lefts, rights, labels, marks, &[]);
     let why = refusal(c, t);
     if why != 0 {
         return refused(why);

@@ -1,8 +1,8 @@
 -- What stands before the walk, then the walk.
 use Rattle.std.proofs.Common.{◌≡◌, sym, ap, ◌∙◌, ℕ, List, [], Bool, ◌&&◌, cond, eq-eqb, Result, Err}
 use borrow.Author.Tests.{ne_eqb}
-use Rattle.model.specs.{Tables.{Tables, tables_of}, Sound.{control_sound, rows_fit}}
-use Rattle.sound.specs.Lengths.{lengths_fit}
+use Rattle.model.specs.{Tables.{Tables, tables_of}, Sound.control_sound}
+use Rattle.sound.proofs.Measured.{measured_unpooled}
 use Rattle.sheet_model.specs.Sheet.{Sheet, malformed}
 use Rattle.sheet.specs.{declared.extents.Extents.Extents, Refusals.{unfit, walked}}
 use Rattle.walk.specs.Ways.{beginning_of}
@@ -19,8 +19,10 @@ module _ (c : After-unfit-why) (next : List ℕ) where
   given = record { listed = c.args.listed.now; rules = c.args.rules.now }
 
   tried : c.unfit-why.result ≡ why queue given c.args.room
-  unfolding lengths_fit rows_fit
-  tried = c.unfit-why.ensures ∙ ap (λ (b : Bool). unfit (control_sound c.args.c) (malformed given) (b && c.args.room)) c.rows_fit-fits.ensures
+  tried =
+      c.unfit-why.ensures
+      ∙ ap (λ (b : Bool). unfit (control_sound c.args.c) (malformed given) (b && c.args.room))
+      (c.rows_fit-fits.ensures ∙ measured_unpooled c.args.c c.args.c.slots _ _ _ _ next _ _ (c.of-t.ensures c.args.c))
 
   -- What the walk notes, with or without a refusal before it.
   abbrev by : Bool → Result Extents ℕ

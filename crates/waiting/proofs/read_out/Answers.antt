@@ -1,7 +1,7 @@
 -- Refused before the walk, or what comes of the walk by where it begins.
-use Rattle.std.proofs.Common.{◌≡◌, sym, ap, ◌∙◌, ℕ, List, [], Option, None, Some, Result, Ok}
-use Rattle.model.specs.{Tables.{Tables, tables_of}, Sound.rows_fit}
-use Rattle.sound.specs.Lengths.{lengths_fit}
+use Rattle.std.proofs.Common.{◌≡◌, sym, ap, ◌∙◌, ℕ, List, [], Bool, Option, None, Some, Result, Ok}
+use Rattle.model.specs.{Tables.{Tables, tables_of}, Refusals.{first, table_rules}}
+use Rattle.sound.proofs.Measured.{measured_unpooled}
 use Rattle.walk.{specs.{declared.{Unsound.Unsound, Way.Way}, Ways.{beginning_of, walk_by}}, proofs.Along.waits}
 use Rattle.waiting.specs.{declared.WaitingReply.WaitingReply, Waiting.{Written, read_out, written_out}}
 use Rattle.waiting.proofs.ReadingOut.{why, turned_away, nothing, ready, reads}
@@ -14,8 +14,9 @@ module _ (c : After-refusal-why) (next : List ℕ) where
   tables = tables_of c.args.c c.args.lefts.now c.args.rights.now c.args.labels.now c.args.marks.now next
 
   tried : c.refusal-why.result ≡ why tables c.args.slots.now c.args.copies.now
-  unfolding lengths_fit rows_fit
-  tried = c.refusal-why.ensures
+  tried =
+      c.refusal-why.ensures
+      ∙ ap (λ (b : Bool). first (table_rules c.args.c b)) (measured_unpooled c.args.c c.args.c.slots _ _ _ _ next _ _ (c.of-t.ensures c.args.c))
 
   -- A refusal leaves both tables.
   abbrev told : WaitingReply → Written
