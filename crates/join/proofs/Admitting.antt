@@ -8,14 +8,14 @@ use Rattle.model.specs.{declared.{Control.Control, Entry.Entry}, Tables.{Queue, 
 use Rattle.model.specs.{Sound.{control_tests, control_sound}, Walk.{contents, met}}
 use Rattle.model.proofs.{Tests.Rules.tests, Bridge.Facts.from1_true}
 use Rattle.sound.specs.Lengths.{lengths_of}
-use Rattle.std.specs.Prelude.{Result, Ok, Err}
 use Rattle.walk.specs.{declared.Unsound.Unsound, Counted.counted}
 use Rattle.walk.proofs.Counting.{all-counted, none-counted}
 use Rattle.layout.{specs.Rows.records_of, proofs.Rows.length_records}
 use Rattle.stock_model.specs.Accounts.{waiting_labels}
 use Rattle.join_model.specs.Join.{anchor_in, lanes, source_fits, third_fits, at_rest, fresh}
 use Rattle.join_model.{specs.Closed.{late_for, closed_refusal}, proofs.Merged.{interleaved, length_merged}}
-use Rattle.std.specs.Prelude.{Ok, Err}
+use Rattle.std.specs.Prelude.{Result, Ok, Err}
+use Rattle.model.specs.{declared.Refusal.Refusal, Outcomes.Refused}
 use Rattle.join.specs.{declared.admit.Waiting.Waiting, Stages.{lengths_fit, tests_refusal, later_refusal}}
 use Rattle.join.specs.Admits.{walked, Admits}
 
@@ -49,7 +49,7 @@ module _ (a b q : Queue) where
       tests_refusal (control_sound a.tables.control) (control_sound b.tables.control) (control_sound q.tables.control)
       (every (source_fits a ∷ source_fits b ∷ third_fits q ∷ []))
 
-  pub turned_away : (n : ℕ) → n ≡ why → n ≢ 0 → Admits a b q (Err n)
+  pub turned_away : (n : ℕ) → n ≡ why → n ≢ 0 → Admits a b q (Refused n)
   unfolding closed_refusal
   turned_away n e h = (e ∙ sym (one_applies _ _ _ _ _ (λ z. h (e ∙ z))), h)
 
@@ -62,12 +62,12 @@ module _ (a b q : Queue) where
     unfolding control_sound
     small = (from1_true 1023 q.tables.control.slots (tests (control_tests q.tables.control) passed.2).1.0).1
 
-    first-lost : (u : Unsound) → Err u ≡ counted (contents a.tables) → Admits a b q (Err 34)
+    first-lost : (u : Unsound) → Err u ≡ counted (contents a.tables) → Admits a b q (Refused 34)
     unfolding closed_refusal
     first-lost u g = (rw (passed.0, passed.1, passed.2, passed.3, none-counted (contents a.tables) u g), λ z. omega arith)
 
     module _ (k : ℕ) (g : Ok k ≡ counted (contents a.tables)) where
-      second-lost : (u : Unsound) → Err u ≡ counted (contents b.tables) → Admits a b q (Err 34)
+      second-lost : (u : Unsound) → Err u ≡ counted (contents b.tables) → Admits a b q (Refused 34)
       unfolding closed_refusal
       second-lost u h = (
         rw (
@@ -101,17 +101,17 @@ module _ (a b q : Queue) where
               (late_for (anchor_in q).tag n)) in_both
               ∙ rw (passed.0, passed.1, passed.2, passed.3, (all-counted (contents a.tables) k g).0, (all-counted (contents b.tables) m h).0)
 
-          pub turned_away_late : code ≢ 0 → Admits a b q (Err code)
+          pub turned_away_late : code ≢ 0 → Admits a b q (Refused code)
           turned_away_late o = (decided, o)
 
           pub let_in : code ≡ 0 → Admits a b q (Ok (record { first = k; second = m }))
           let_in o = record { none = sym decided ∙ o; first = in_first; second = in_second }
 
     -- What the walks said: 34, or what they counted.
-    pub lost : (why : ℕ) → Err why ≡ walked (counted (contents a.tables)) (counted (contents b.tables)) → Admits a b q (Err why)
-    lost why w = go _ _ refl refl w
+    pub lost : (e : Refusal) → Err e ≡ walked (counted (contents a.tables)) (counted (contents b.tables)) → Admits a b q (Err e)
+    lost e w = go _ _ refl refl w
       where
-        go : (x y : Result ℕ Unsound) → x ≡ counted (contents a.tables) → y ≡ counted (contents b.tables) → Err why ≡ walked x y → Admits a b q (Err why)
+        go : (x y : Result ℕ Unsound) → x ≡ counted (contents a.tables) → y ≡ counted (contents b.tables) → Err e ≡ walked x y → Admits a b q (Err e)
         go (Err u) y ex ey w = subst (Admits a b q) (sym w) (first-lost u ex)
         go (Ok k) (Err u) ex ey w = subst (Admits a b q) (sym w) (second-lost k ex u ey)
         go (Ok k) (Ok m) ex ey w = absurd (cc)

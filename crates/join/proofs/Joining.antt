@@ -15,7 +15,8 @@ use Rattle.join_model.specs.Closed.{filled, left_of, label_of, marked_to, held, 
 use Rattle.join_model.proofs.{Merged.{interleaved, length_merged}, Filling.filled_at, Laws.tag-room}
 use Rattle.join_model.proofs.Closed.{Rests, same-refusal, accepted, closed_join}
 use Rattle.stock_model.specs.Accounts.{waiting_labels}
-use Rattle.std.specs.Prelude.{Some, None, Ok, Err}
+use Rattle.std.specs.Prelude.{Some, None, Ok}
+use Rattle.model.specs.Outcomes.{Refused}
 use Rattle.join.specs.{Scratch.{InRows, trail, walked_to, label_via, rows_down, right_to}}
 use Rattle.join.specs.Anchored.{anchored, Joins}
 use Rattle.join.proofs.Filled.{Trod, overwritten, linked, names, stays, trod, turned}
@@ -90,7 +91,7 @@ module _ (q : Queue) (rests : Rests q) (n : ℕ) (all : n ≡ length (waiting_la
 module _ (a b q : Queue) where
   -- Refused: nothing changes.
   pub refuses : (code : ℕ) → code ≡ closed_refusal a b q → code ≢ 0
-      → Joins a b q (Err code) q.tables.lefts q.tables.rights q.tables.labels q.tables.marks
+      → Joins a b q (Refused code) q.tables.lefts q.tables.rights q.tables.labels q.tables.marks
   unfolding laid join
   refuses code e h =
       let why = e ∙ sym (same-refusal a b q) in

@@ -9,7 +9,7 @@ ghost use Rattle.join_model.specs.{Join.{at_rest, fresh}, Closed.late_for};
 ghost use Rattle.join.specs.{Stages.{lengths_fit, tests_refusal, later_refusal}, Admits.{walked, Admits}};
 
 use crate::rest;
-use model::Control;
+use model::{Control, Refusal};
 use sound::Lengths;
 use word::Anchor;
 
@@ -142,16 +142,16 @@ fn walks(
     rights1: &[u64],
     lefts2: &[u64],
     rights2: &[u64],
-) -> Result<Waiting, u32>
+) -> Result<Waiting, Refusal>
     ensures { (a b c d e f : List ℕ) → result ≡ walked
         (counted (contents (tables_of first lefts1.now rights1.now a b c)))
         (counted (contents (tables_of second lefts2.now rights2.now d e f))) }
 {
     let Ok(n) = walk::waiting(first, lefts1, rights1) else {
-        return Err(34);
+        return Err(Refusal { number: 34 });
     };
     let Ok(m) = walk::waiting(second, lefts2, rights2) else {
-        return Err(34);
+        return Err(Refusal { number: 34 });
     };
     Ok(Waiting {
         first: n,
@@ -177,7 +177,7 @@ pub fn admit(
     rights: &[u64],
     labels: &[u32],
     marks: &[u64],
-) -> Result<Waiting, u32>
+) -> Result<Waiting, Refusal>
     ensures { (marks1 next1 marks2 next2 next : List ℕ) → Admits
         (queue_of first (records_of records1.now) lefts1.now rights1.now labels1.now marks1 next1)
         (queue_of second (records_of records2.now) lefts2.now rights2.now labels2.now marks2 next2)
@@ -214,7 +214,7 @@ pub fn admit(
     let enough = c & (third.slots / 64 < into.marks as u64);
     let why = table_rules(first, second, third, a, b, enough);
     if why != 0 {
-        return Err(why);
+        return Err(Refusal { number: why });
     }
     let waiting = walks(first, second, lefts1, rights1, lefts2, rights2)?;
     let code = final_rules(
@@ -232,7 +232,7 @@ pub fn admit(
         waiting.second,
     );
     if code != 0 {
-        return Err(code);
+        return Err(Refusal { number: code });
     }
     Ok(waiting)
 }

@@ -9,7 +9,7 @@ ghost use Rattle.layout.specs.Rows.{records_of, uppers_of, queue_in};
 ghost use Rattle.join_model.specs.Join.{Joined, join, laid};
 ghost use Rattle.join.specs.Anchored.{anchored, Joins};
 
-use model::Control;
+use model::{Control, Refusal};
 use word::Anchor;
 
 mod admit;
@@ -54,7 +54,7 @@ fn join(
     rights: &mut [u64],
     labels: &mut [u32],
     marks: &mut [u64],
-) -> Result<Option<Control>, u32>
+) -> Result<Option<Control>, Refusal>
     ensures { (marks1 next1 marks2 next2 next : List ℕ) → Joins
         (queue_of first (records_of records1.now) lefts1.now rights1.now labels1.now marks1 next1)
         (queue_of second (records_of records2.now) lefts2.now rights2.now labels2.now marks2 next2)
@@ -133,6 +133,6 @@ pub extern "C" fn zc_join(
             0
         }
         Ok(None) => 0,
-        Err(code) => code,
+        Err(refusal) => refusal.number,
     }
 }

@@ -12,20 +12,21 @@ pub fn first_broken<R: Marks>(square: &[R], n: usize, seen: &Extents) -> SheetRe
     requires { (32 ≤ length square.now) × (n ≤ 32) }
     ensures { result ≡ in_rows (crossed R.kind square.now seen.now.low seen.now.high) n 1 n }
 {
-    for a in 0..n {
+    let mut first = 0;
+    let mut second = 0;
+    // The document asks for loops that are left from inside by a label.
+    'pairs: for a in 0..n {
         for b in 0..n {
             if square[a].has(b) & (seen.low[b] <= seen.high[a]) {
-                return SheetReply {
-                    code: 0,
-                    first: a as u64 + 1,
-                    second: b as u64 + 1,
-                };
+                first = a as u64 + 1;
+                second = b as u64 + 1;
+                break 'pairs;
             }
         }
     }
     SheetReply {
         code: 0,
-        first: 0,
-        second: 0,
+        first,
+        second,
     }
 }

@@ -1,16 +1,19 @@
 -- Refused, nothing to lay, or laid: on the queues that the call was given.
-use Rattle.std.proofs.Common.{[], ◌∙◌, arith, eqb-true, sym}
+use Rattle.std.proofs.Common.{[], ◌∙◌, ap, arith, eqb-true, sym, ℕ}
 use lib.Dec.{eqb}
-use Rattle.model.proofs.Tests.Truth.{and-true}
+use Rattle.model.{specs.declared.Refusal.Refusal, proofs.Tests.Truth.and-true}
 use Rattle.std.proofs.lemmas.Result.{err_from_is_err_and}
 use Rattle.join.proofs.Joining.{refuses, nothing, few, both_in_rows, low-tag, lays, one_left}
 use Rattle.join.proofs.join.Goals as goal
+
+abbrev numbered : Refusal → ℕ
+numbered refusal = refusal.number
 
 pub returns-in_err-waiting : goal.returns-in_err-waiting
 returns-in_err-waiting c m1 x1 m2 x2 x =
     let h = c.in_err-waiting.ensures m1 x1 m2 x2 x in
     let g = err_from_is_err_and c.from_residual.result c.from_residual.ensures.1 in
-    rw g.1 (refuses _ _ _ g.0 (g.2 ∙ h.0) (λ z. h.1 (sym g.2 ∙ z)))
+    rw g.1 (refuses _ _ _ g.0.number (ap numbered g.2 ∙ h.0) (λ z. h.1 (sym (ap numbered g.2) ∙ z)))
 
 pub returns-then-waiting : goal.returns-then-waiting
 returns-then-waiting c m1 x1 m2 x2 x =

@@ -1,5 +1,6 @@
 -- Each stage of the rules, on the queues that the call was given.
 use Rattle.std.proofs.Common.{[], ◌∙◌, ap, ℕ, Result, Err}
+use Rattle.model.specs.declared.Refusal.{Refusal}
 use Rattle.join.specs.declared.admit.Waiting.{Waiting}
 use Rattle.std.proofs.lemmas.Result.{err_from_is_err_and}
 use Rattle.join.proofs.Admitting.{tried, turned_away, small, lost, met_all, turned_away_late, let_in}
@@ -17,8 +18,8 @@ final_rules-code-requires c =
     c.lengths_fit-a.ensures c.lengths_fit-b.ensures c.lengths_fit-c.ensures c.table_rules-why.ensures in
     small _ _ _ _ none c.if-why-ne0.false
 
-abbrev error : ℕ → Result Waiting ℕ
-error n = Err n
+abbrev error : Refusal → Result Waiting Refusal
+error e = Err e
 
 pub returns-in_err-waiting : goal.returns-in_err-waiting
 returns-in_err-waiting c m1 x1 m2 x2 x =
