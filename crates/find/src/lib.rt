@@ -198,7 +198,7 @@ pub extern "C" fn zc_find(
         };
     }
     let mut positions: [u64; 32] = [0; 32];
-    // One answer for both ends of the search: where each makes its own, the call takes 632 bytes of stack for 504.
+    // One answer for both ends of the search: where each makes its own, the call takes 632 bytes of stack in place of 504.
     let (code, rows) = match search(c, lefts, rights, labels, wanted, &mut positions) {
         Ok(rows) => (0, rows),
         Err(Unsound) => (34, 0),

@@ -72,8 +72,8 @@ fn first(word: &[u8]) -> Result<Meaning, Fault>
     }
 }
 
-// Kinds, sides and answers stay numbers, since a call may name them by a number too, any number, and `audit::audit_words` judges
-// what it lent as numbers.
+// Kinds, sides and answers stay numbers, since a history may name them by any number, and `audit::audit_words` judges the
+// numbers that it is lent.
 fn kind(word: &[u8]) -> Result<Meaning, Fault>
     ensures { result ≡ meaning.kind word.now }
 {

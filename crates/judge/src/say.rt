@@ -87,7 +87,7 @@ fn put_unread(out: &mut [u8], p: Place) -> usize
     lines::write_text(out, c, fault_line(why, p.column))
 }
 
-// Where there is room for it.
+// The message, where there is room for it; else nothing.
 fn put_message(out: &mut [u8], judged: Result<Verdict, Place>) -> usize
     ensures put { Put out.old out.new 0 result (given_room room (length out.old) 0 (message judged)) }
     ensures upper_bound { result ≤ length out.old }

@@ -4,8 +4,8 @@ ghost use Rattle.std.specs.Prelude.{◌+◌, ◌*◌, ◌/◌, ◌%◌, ◌^◌,
 ghost use Rattle.lines.specs.Line.{decimal_in, decimal, last_two, hex_four, hex, numbered, Put};
 
 // Each of these functions, and those of lib.rt, takes the buffer and a position, and answers the position after what it wrote.
-// They are no methods of a writer that holds both, since that is slower: a trace of 200,000 steps takes 85,125,905 instructions
-// by it, and 75,682,124 by these.
+// They are no methods of a writer that holds both, since the program `trace` is slower by it: for 200,000 steps it takes
+// 85,125,905 instructions, and 75,682,124 by these.
 /// One byte.
 pub fn put(out: &mut [u8], at: usize, b: u8) -> usize
     requires { at < length out.old }

@@ -42,8 +42,8 @@ pub enum NoField {
     End,
 }
 
-// Whether a field of this tag and length may stand here. Tags stay numbers, as document 01 lists them: an enum is no plainer, since it
-// would be a third list of them, made from the byte here and only matched in `content`.
+// Whether a field of this tag and length may stand here. Tags stay numbers, as document 01 lists them: an enum would be made
+// of the byte by a list as long as this one, only to be matched in `content`.
 #[tactic(auto, unfolding(crate::specs::Field::formed))]
 fn is_formed(opened: bool, tag: u8, len: u16) -> bool
     ensures { result ≡ formed opened tag len }

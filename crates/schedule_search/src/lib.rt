@@ -14,7 +14,7 @@ use schedule_model::Ending;
 use undo::Rows;
 
 /// A schedule's length, and how it ends, by the number that C reads.
-// No `Ending`: `Schedule` of `schedule_model/specs` has a number, which `zc_next_schedule` promises to tell.
+// A number and no `Ending`, since a `Schedule` of `schedule_model/specs` ends with one, which `zc_next_schedule` tells.
 #[derive(Clone, Copy)]
 pub struct Found {
     pub length: u64,

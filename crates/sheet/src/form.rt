@@ -65,7 +65,7 @@ fn outside(n: usize, w: u32) -> bool
     !(sound::from1(last, before(w) as u64) & sound::from1(last, after(w) as u64))
 }
 
-/// Whether any of some rules does.
+/// Whether any of these rules points outside a list of n labels.
 fn points_outside(n: usize, rules: &[u32]) -> bool
     ensures { result ≡ list_any (outside n) rules.now }
 {

@@ -50,7 +50,7 @@ fn unfit(c: Control, listed: &[u32], rules: &[u32], fits: bool) -> u64
 }
 
 /// Notes where the listed labels wait, or says the number of a refusal: those before the walk, then 34 for it.
-/// There is room for the chained rules, or not.
+/// `room`: there is room for the chained rules.
 fn asked(
     c: Control,
     listed: &[u32],

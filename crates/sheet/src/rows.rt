@@ -18,7 +18,7 @@ pub trait Marks: Copy {
         requires { b < 32 }
         ensures { self.new ≡ kind.put self.old b };
 
-    /// With the marks of another too.
+    /// Sets the marks of another row too.
     fn join(&mut self, via: Self)
         ensures { self.new ≡ kind.join via self.old };
 }

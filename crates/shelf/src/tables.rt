@@ -46,7 +46,7 @@ pub fn put_tables(
 }
 
 /// The tables of the queue on a shelf, with this control, put back.
-// A function of its own: `zc_save` is lent the queue's tables for reading alone and `zc_return` the shelves', so none can take both ways.
+// A function of its own: `zc_save` is lent the queue's tables for reading alone and `zc_return` the shelves', so no one list of parameters fits both.
 pub fn take_tables(
     c: Control,
     shelf: u64,

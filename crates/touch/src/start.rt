@@ -17,7 +17,7 @@ use threads_model::{PlannedTouch, Start};
 pub const START_WORDS: usize = 4;
 
 /// The start that its words are.
-// The operation stays a number, as C's words have it: `zc_plan_start` and the theorems speak of it for all numbers.
+// The operation stays a number, as C's words have it: `zc_plan_start` is proved for all numbers.
 #[tactic(auto, unfolding(crate::specs::Started::start_of))]
 pub fn start_of(words: [u64; START_WORDS]) -> Start
     ensures { result ≡ start_of words }
