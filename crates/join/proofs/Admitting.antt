@@ -93,7 +93,8 @@ module _ (a b q : Queue) where
         in_both = ap₂ (λ (x y : ℕ). x + y) in_first in_second ∙ sym (length_merged (interleaved (waiting_labels a.tables) (waiting_labels b.tables)))
 
         module _ (code : ℕ)
-            (d : code ≡ later_refusal (every (at_rest a ∷ at_rest b ∷ fresh q ∷ [])) (ltb q.tables.control.slots (k + m)) (late_for (anchor_in q).tag (k + m))) where
+            (d : code ≡ later_refusal (every (at_rest a ∷ at_rest b ∷ fresh q ∷ [])) (ltb q.tables.control.slots (k + m))
+                (late_for (anchor_in q).tag (k + m))) where
           decided : code ≡ closed_refusal a b q
           unfolding closed_refusal later_refusal
           decided =

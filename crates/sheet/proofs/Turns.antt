@@ -8,8 +8,8 @@ use Rattle.std.proofs.lemmas.List.{get_or_default}
 use borrow.Author.Tests.{eq-eqb, ne_eqb, leb-true, not-false, lt-ltb, le-ltb, ltb-true, ltb-false}
 use Rattle.model.{specs.Sound.from1, proofs.Tests.Truth.{and-true, or-false, split}}
 use Rattle.sheet_model.specs.{declared.SheetReply.SheetReply, Verdict.{broken_by, kept}}
-use Rattle.sheet_model.specs.Sheet.{Sheet, before, after, any, twice, outside, malformed}
-use Rattle.sheet.specs.{Extents.{place_of, first_at, next_at}, Search.{in_row, in_rows}}
+use Rattle.sheet_model.specs.Sheet.{before, after, any, twice, outside}
+use Rattle.sheet.specs.{Extents.{place_of, next_at}, Search.{in_row, in_rows}}
 use Rattle.sheet.specs.Squares.{Row, crossed, sweep, rule_marked, rules_marked, rounds, join_via}
 
 left : (n i : ℕ) → i < n → n - i ≡ suc (n - (i + 1))
@@ -50,15 +50,6 @@ module _ (l : List ℕ) (i : ℕ) where
   pub place_end : (x : ℕ) → length l ≤ i → i ≡ i + place_of x (drop i l)
   unfolding place_of
   place_end x h = rw (no-rest h) (omega arith)
-
-  pub any_here : (p : ℕ → Bool) → i < length l → any p (drop i l) ≡ any p l → p (get_or l i 0) ≡ true → true ≡ any p l
-  any_here p h g e = sym (sym g ∙ ap (any p) (rest h) ∙ ap (λ b. b || any p (drop (i + 1) l)) e)
-
-  pub any-on : (p : ℕ → Bool) → i < length l → any p (drop i l) ≡ any p l → p (get_or l i 0) ≡ false → any p (drop (i + 1) l) ≡ any p l
-  any-on p h g e = sym (sym g ∙ ap (any p) (rest h) ∙ ap (λ b. b || any p (drop (i + 1) l)) e)
-
-  pub any_end : (p : ℕ → Bool) → length l ≤ i → any p (drop i l) ≡ any p l → false ≡ any p l
-  any_end p h g = ap (any p) (sym (no-rest h)) ∙ g
 
   pub twice-here : (r : ℕ) → i < length l → twice (drop i l) ≡ twice l → r ≡ (i + 1) + place_of (get_or l i 0)
       (drop (i + 1) l) → r < length l → true ≡ twice l
@@ -158,20 +149,6 @@ join-marked r k via i row h = ap (λ b. cond b (r.join via row) row) h
 pub join_unmarked : {A : Type 0} (r : Row A) (k : ℕ) (via : A) (i : ℕ) (row : A) → r.has row k ≡ false → join_via r k via i row ≡ row
 join_unmarked r k via i row h = ap (λ b. cond b (r.join via row) row) h
 
--- The tests of a sheet's form, one after the other.
-module _ (s : Sheet) where
-  pub many_listed : 32 < length s.listed → true ≡ malformed s
-  unfolding malformed
-  many_listed h = sym (rw (lt-ltb 32 (length s.listed) h))
-
-  pub many_rules : length s.listed ≤ 32 → 128 < length s.rules → true ≡ malformed s
-  unfolding malformed
-  many_rules g h = sym (rw (le-ltb 32 (length s.listed) g, lt-ltb 128 (length s.rules) h))
-
-  pub others : length s.listed ≤ 32 → length s.rules ≤ 128 → malformed s ≡ twice s.listed || any (outside (length s.listed)) s.rules
-  unfolding malformed
-  others g h = rw (le-ltb 32 (length s.listed) g, le-ltb 128 (length s.rules) h)
-
 -- Rows as they are read, whatever stands for one that isn't there.
 module _ {A : Type 0} (r : Row A) (m : List A) (i : ℕ) (h : i < length m) where
   pub rule-set : (w b a : ℕ) (x : A) → b ≡ before w → a ≡ after w → b - 1 ≡ i → set m (b - 1) (r.put (get_or m (b - 1) x) (a - 1)) ≡ rule_marked r w m
@@ -203,18 +180,6 @@ module _ {A : Type 0} (r : Row A) (m : List A) (i : ℕ) (h : i < length m) wher
 abbrev pub position : Bool → ℕ → ℕ
 position up k = cond up (1 + k) (1023 - k)
 
-pub position_first : (up : Bool) → first_at up ≡ position up 0
-position_first true = omega arith
-position_first false = omega arith
-
 pub position-on : (up : Bool) (k : ℕ) → next_at up (position up k) ≡ position up (k + 1)
 position-on true k = omega arith
 position-on false k = omega arith
-
-pub position-low : (up : Bool) (k : ℕ) → k < 1023 → 1 ≤ position up k
-position-low true k h = omega arith
-position-low false k h = omega arith
-
-pub position-high : (up : Bool) (k : ℕ) → k < 1023 → position up k ≤ 1023
-position-high true k h = omega arith
-position-high false k h = omega arith

@@ -4,9 +4,8 @@ use mathlib.Core.{Path.{◌≡◌, refl, sym, ap, ◌∙◌, subst}, Bool.{Bool,
 use lib.{Dec.{leb, eqb}, ListN.{length, drop, get_or}}
 use Rattle.runfile.{specs.Field.{two_at, formed, content_of, field_of, taken}, proofs.Prefix.formed-put}
 use Rattle.std.specs.Prelude.{Result, Ok, Err, IfOk}
-use Rattle.runfile.specs.declared.{Field.{Field, TheVariants.Each}, Found.Found, NoField.NoField}
+use Rattle.runfile.specs.declared.{Found.Found, NoField.NoField}
 use Rattle.runfile.proofs.Prefix.{Seen, seen, ended, cut, wrong, whole, formed_most, formed_push, formed_pop}
-use Rattle.model.specs.declared.Op.{Op}
 use Rattle.runfile.specs.declared.NoField.TheVariants.{Malformed}
 use Rattle.trace_field.specs.Run.{Told, carried, malformed}
 use Rattle.trace_field.specs.Page.{Page, written, does, carries, uppers_after, breaks, moved, field_room, takes, BytesThere}
@@ -38,9 +37,6 @@ field_there o b = go (field_of o b) (seen o b)
     go f (cut h) = tt
     go f (wrong h w) = tt
     go f (whole w h) = content_there o (get_or b 0 0) (two_at b 1) 0 (length b) (drop 3 b) w (omega arith)
-
-pub each_there : (f : Field) (op : Op) (n at len : ℕ) → f ≡ Each op n → BytesThere f at len → (n ≤ 4096) × (at + 3 + n ≤ len)
-each_there f op n at len e w = subst (λ (g : Field). BytesThere g at len) e w
 
 -- What stands at the reading position taken.
 module _ (bytes : List ℕ) (p : Page) where

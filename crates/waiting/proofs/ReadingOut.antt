@@ -7,8 +7,8 @@ use borrow.Author.Tests.{le-ltb, ltb-false, ltb-true, ne_eqb, not-false}
 use Rattle.model.specs.{Tables.Tables, Sound.{control_sound, row_tests, rows_fit}, Report.waiting}
 use Rattle.model.specs.{Walk.{Walk, broken, contents, entries, is_broken, met}, Refusals.{Rule, rule, first, table_rules}}
 use Rattle.model.proofs.Tests.{Rules.{tests, cleared, first-refused}, Truth.{not_both, or-false, split}}
-use Rattle.std.specs.Prelude.{Some, Ok, Err}
-use Rattle.walk.specs.declared.{Unsound.Unsound, Way.Way}
+use Rattle.std.specs.Prelude.{Some, Ok}
+use Rattle.walk.specs.declared.{Way.Way}
 use Rattle.walk.specs.{Ways.{ahead, beginning_of, links_on, turned_back, way_of}, Counted.counted}
 use Rattle.walk.proofs.{Along.begins-at, Counting.all-counted}
 use Rattle.waiting.specs.Waiting.{Written, kept, labels_of, onto, read_out, slots_of, too_short, waiting_refusal}
@@ -60,10 +60,6 @@ module _ (q : Tables) (slots labels : List ℕ) where
 module _ (slots labels : List ℕ) where
   pub nothing : kept 0 slots labels ≡ written_out (entries []) slots labels
   nothing = rw (le-ltb (length slots) 0 (omega arith), le-ltb (length labels) 0 (omega arith))
-
-  pub lost : (w : Way) (v : Walk) (u : Unsound) → Err u ≡ counted v → kept 34 slots labels ≡ written_out (turned_back w v) slots labels
-  lost w (entries l) u t = cc
-  lost w broken u t = refl
 
   pub short : (v : Walk) (m : ℕ) → Ok m ≡ counted v → too_short m slots labels ≡ true → kept 12 slots labels ≡ written_out v slots labels
   short (entries l) m t h = rw (ap (λ (k : ℕ). too_short k slots labels) (sym (all-counted (entries l) m t).1) ∙ h)

@@ -10,10 +10,13 @@ pub loop-b-init : goal.loop-b-init
 loop-b-init g c =
     let n = c.args.n in
     let a = c.pairs.a in
-    let p = crossed g.R.Marks.kind c.args.square.now c.args.seen.now.low c.args.seen.now.high in
-    (ap (λ (k : ℕ). in_row p (a + 1) 1 k (in_rows p n ((a + 1) + 1) (n - (a + 1)))) (all_left n)
-    ∙ sym (rows_on n a p n c.pairs-test.true)
-    ∙ c.pairs.invariant.0, c.pairs.invariant.1, c.pairs.invariant.2)
+    let p = crossed g.R.Marks.kind c.args.square.now c.args.seen.now.low c.args.seen.now.high in (
+      ap (λ (k : ℕ). in_row p (a + 1) 1 k (in_rows p n ((a + 1) + 1) (n - (a + 1)))) (all_left n)
+          ∙ sym (rows_on n a p n c.pairs-test.true)
+          ∙ c.pairs.invariant.0,
+      c.pairs.invariant.1,
+      c.pairs.invariant.2,
+    )
 
 pub returns-then-has-seen : goal.returns-then-has-seen
 returns-then-has-seen g c =
@@ -31,11 +34,14 @@ loop-b-preserved g c =
     let a = c.pairs.a in
     let b = c.loop-b.b in
     let e = c.args.seen.now in
-    let row : a < length c.args.square.now = omega arith in
-    (row_on c.args.n b (crossed g.R.Marks.kind c.args.square.now e.low e.high) (a + 1) _ c.loop-b-test.true
-    (crossed-at g.R.Marks.kind c.args.square.now a row e.low e.high b c.index-square-a.result c.index-square-a.is
-    ∙ ap (λ t. t && leb (get_or e.low b 0) (get_or e.high a 0)) (sym c.has.ensures) ∙ c.if-has-seen.false)
-    ∙ c.loop-b.invariant.0, c.loop-b.invariant.1, c.loop-b.invariant.2)
+    let row : a < length c.args.square.now = omega arith in (
+      row_on c.args.n b (crossed g.R.Marks.kind c.args.square.now e.low e.high) (a + 1) _ c.loop-b-test.true
+          (crossed-at g.R.Marks.kind c.args.square.now a row e.low e.high b c.index-square-a.result c.index-square-a.is
+          ∙ ap (λ t. t && leb (get_or e.low b 0) (get_or e.high a 0)) (sym c.has.ensures) ∙ c.if-has-seen.false)
+          ∙ c.loop-b.invariant.0,
+      c.loop-b.invariant.1,
+      c.loop-b.invariant.2,
+    )
 
 pub pairs-preserved : goal.pairs-preserved
 pairs-preserved g c =

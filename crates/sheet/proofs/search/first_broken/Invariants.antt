@@ -1,5 +1,5 @@
 -- No pair before is broken.
-use Rattle.std.proofs.Common.{◌≡◌, ◌+◌, ◌-◌, ℕ}
+use Rattle.std.proofs.Common.{◌≡◌, ◌+◌, ◌-◌}
 use Rattle.sheet.specs.{Squares.crossed, Search.{in_row, in_rows}}
 use Rattle.sheet.proofs.search.first_broken.Given as goal
 
