@@ -4,7 +4,8 @@
 ghost use Rattle.std.specs.Prelude.{◌≡◌};
 ghost use Rattle.audit_model.specs.LentHistory.{verdict_reply};
 
-/// A finished call, as a history tells it. The task is told, and decides nothing.
+/// A finished call, as a history tells it. The task is told, and decides nothing. Kind, side and answer are numbers and
+/// no enums, since C lends any, and others than these are refused.
 #[repr(C)]
 #[derive(Clone, Copy)]
 pub struct Finished {

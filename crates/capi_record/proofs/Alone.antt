@@ -23,7 +23,8 @@ module _ (ws row lefts rights labels marks next : List ℕ) (c : Control) (ec : 
       ◌≡◌ {A = RepliedAlone} (record { tables = q'; task = record_of row'; upper = upper_of row'; reply = n })
       (replied_alone (upper_of row) (step_lent before (record_of row)))
 
-  module _ (why : ℕ) (l : Lengths) (el : l ≡ lengths_of before 1) (told : why ≡ admission c (lengths_fit (is_pooled c) c.slots l) alone) (o : Outcome) (n : Reply) (en : n ≡ reply_of o) where
+  module _ (why : ℕ) (l : Lengths) (el : l ≡ lengths_of before 1) (told : why ≡ admission c (lengths_fit (is_pooled c) c.slots l) alone)
+      (o : Outcome) (n : Reply) (en : n ≡ reply_of o) where
     asked : why ≡ admission (control_of ws) (fit (control_of ws)) alone
     asked = told ∙ ap (λ (l : Lengths). admission c (lengths_fit (is_pooled c) c.slots l) alone) el ∙ ap (λ (d : Control). admission d (fit d) alone) ec
 

@@ -36,7 +36,7 @@ pub fn refuse(why: u32) -> Outcome
 }
 
 /// An outcome in numbers.
-// A function and no `From`: both types are of `model`, and Rust lets only their own crate say how one turns into the other.
+// A function and no `From`: that would have to stand in `model`, whose types it turns, and which has no functions.
 pub fn reply(o: Outcome) -> Reply
     ensures { result ≡ reply_of o }
 {

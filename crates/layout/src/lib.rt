@@ -129,7 +129,7 @@ pub fn clear(rows: &mut [[u64; RECORD_WORDS]], n: usize)
     ensures rows_after_2 { uppers_of rows.new ≡ zeroed (min n (length rows.old)) 0 (uppers_of rows.old) }
 {
     let most = n.min(rows.len());
-    // Not by `fill`, whose contract does not say that what it stores for an array is as long.
+    // Not by the slice's `fill`: its contract does not say that each row it stores has as many words.
     for i in 0..most {
         rows[i] = [0; RECORD_WORDS];
     }

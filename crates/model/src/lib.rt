@@ -10,13 +10,14 @@ pub struct Control {
     pub tasks: u64,
     pub slots: u64,
     pub anchor: u64,
-    /// 0 a named queue, where a push names its slot; 1 a pooled one, where it draws it from the stack.
+    /// 0 a named queue, where a push names its slot; 1 a pooled one, where it draws it from the stack. C lends any number.
     pub pooled: u64,
     /// The stack's head word; 0 in a named queue.
     pub head: u64,
 }
 
-/// Where a task stands in its call; all zero while it has none.
+/// Where a task stands in its call; all zero while it has none. Place, kind and side are numbers and no enums, since C
+/// lends this struct with any numbers in it, and every call is proved for all of them.
 #[repr(C)]
 #[derive(Clone, Copy)]
 pub struct Call {

@@ -1,5 +1,5 @@
-//! Reads and stores on lent tables, defined for every index: past the end a
-//! read gives 0 and a store does nothing.
+//! Reads and stores on lent tables, defined for every index: past the end a read gives what the caller names, and a
+//! store does nothing.
 #![tactic(auto)]
 
 ghost use Rattle.std.specs.Prelude.{◌≡◌, ◌<◌, ◌≤◌, length, get_or, set};
