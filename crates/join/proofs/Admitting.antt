@@ -94,7 +94,7 @@ module _ (a b q : Queue) where
 
         module _ (code : ℕ)
             (d : code ≡ later_refusal (every (at_rest a ∷ at_rest b ∷ fresh q ∷ [])) (ltb q.tables.control.slots (k + m))
-                (late_for (anchor_in q).tag (k + m))) where
+            (late_for (anchor_in q).tag (k + m))) where
           decided : code ≡ closed_refusal a b q
           unfolding closed_refusal later_refusal
           decided =
