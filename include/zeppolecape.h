@@ -69,18 +69,18 @@
  *   zc_push           192       219       219       219
  *   zc_push_pooled    160       183       183       183
  *   zc_pop             40       103       103       103
- *   zc_step           152       245       245       246
- *   zc_step_record    152       237       237       239
- *   zc_run            184      1768      2824      2951
+ *   zc_step           152       247       247       248
+ *   zc_step_record    152       235       235       237
+ *   zc_run            200      1822      2916      3045
  *   zc_report         360       239       374     12652
  *   table bytes         -       240       816     30120
- *   stack bytes of the others: zc_waiting 96, zc_find 504, zc_sheet 1504, zc_sheet_words 496,
- *   zc_join 264, zc_save 200, zc_return 184, zc_next_schedule 20616, zc_serve 320,
- *   zc_audit 200, zc_plan 160, zc_settle_plan 224, zc_settle_unasked 224, zc_plan_start 48,
+ *   stack bytes of the others: zc_waiting 96, zc_find 504, zc_sheet 1432, zc_sheet_words 424,
+ *   zc_join 240, zc_save 184, zc_return 152, zc_next_schedule 19152, zc_serve 320,
+ *   zc_audit 200, zc_plan 112, zc_settle_plan 192, zc_settle_unasked 192, zc_plan_start 8,
  *   zc_settle_start 48, zc_start_loaded 16
- *   code bytes: audit 797, capi 10646, capi_record 5399, capi_run 7328, find 3557, join 4054,
- *   schedule 8361, serve 8973, sheet 3297, shelf 5232, touch 10171, touch_call 8987,
- *   waiting 885
+ *   code bytes: audit 797, capi 10591, capi_record 5157, capi_run 7571, find 3379, join 4028,
+ *   schedule 7802, serve 8713, sheet 3018, shelf 4341, touch 10387, touch_call 9083,
+ *   waiting 884
  * As to the machine: x86-64, System V calling convention. The code uses the red zone (128 bytes
  * below the stack pointer) and SSE registers, no AVX: an interrupt handler that makes a call saves
  * the SSE state first, and an interrupt that is not masked during a call leaves the red zone alone.

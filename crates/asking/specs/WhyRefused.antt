@@ -1,13 +1,15 @@
 -- What a step is refused by for what it touches, as the code asks it.
+use Rattle.std.specs.Prelude.{Err, Ok}
 use Rattle.std.specs.Prelude.{cond, ℕ}
-use Rattle.model.specs.declared.{Control.Control, Call.Call, Outcome.{Outcome, TheVariants.{Refused, Moved}}}
+use Rattle.model.specs.Outcomes.{Outcome}
+use Rattle.model.specs.declared.{Control.Control, Call.Call}
 use Rattle.model.specs.{Tables.Tables, Places.word_found, Refusals.step_sound}
 use Rattle.decide.specs.Ending.{change_refused}
 
 -- The number of a refusal; 0: it is none.
 abbrev pub why_not : Outcome → ℕ
-why_not (Refused n) = n
-why_not (Moved a) = 0
+why_not (Err refusal) = refusal.number
+why_not (Ok a) = 0
 
 -- Of a change of Anchor to `new`, which fails where Anchor is not as read.
 unfoldable pub why_unchanged : Control → Call → ℕ → ℕ

@@ -11,25 +11,22 @@ ghost use Rattle.model.specs.{Tables.tables_of, Places.row, Refusals.step_refusa
 ghost use Rattle.asking.specs.WhyRefused.{why_not, why_unchanged, touch_refusal};
 
 use decide::{step, touched};
-use model::{Call, Control, Outcome, Transition};
+use model::{Call, Control, Transition};
 use places::{links, pool};
 use sound::{Lengths, admission};
 
 /// The slot whose row or mark the record's place touches, at 17 the one that it gives back; 0: none.
+#[tactic(auto, unfolding(model::specs::Places::row, model::specs::Places::side_of))]
 pub fn row_of(r: Call) -> u64
     ensures { result ≡ row r }
 {
-    let place = r.place;
-    match place {
+    match r.place {
         3 => touched::link3(r).slot,
         5 => touched::link5(r).slot,
-        7 => touched::link7(r).slot,
-        9 => touched::link7(r).slot,
+        7 | 9 => touched::link7(r).slot,
         11 => touched::own_end(r),
-        13 => touched::top(r),
-        14 => touched::top(r),
-        16 => r.own,
-        17 => r.own,
+        13 | 14 => touched::top(r),
+        16 | 17 => r.own,
         _ => 0,
     }
 }
@@ -38,14 +35,14 @@ pub fn row_of(r: Call) -> u64
 fn why_not(m: Transition) -> u32
     ensures { result ≡ why_not m.outcome }
 {
-    let o = m.outcome;
-    match o {
-        Outcome::Refused(why) => why,
-        Outcome::Moved(_) => 0,
+    match m.outcome {
+        Err(refusal) => refusal.number,
+        Ok(_) => 0,
     }
 }
 
 /// The same of a change of Anchor to `new`, which fails where Anchor is not as read.
+#[tactic(auto, unfolding(crate::specs::WhyRefused::why_unchanged))]
 fn why_unchanged(c: Control, r: Call, new: u64) -> u32
     ensures { result ≡ why_unchanged c r new }
 {
@@ -68,24 +65,20 @@ fn touch_refusal(
     ensures { (marks : List ℕ)
         → result ≡ touch_refusal (tables_of c lefts.now rights.now labels.now marks next.now) r }
 {
-    let place = r.place;
-    match place {
-        1 => 0,
+    match r.place {
+        1 | 6 | 8 | 16 => 0,
         2 => why_unchanged(c, r, decide::new2(r)),
         3 => why_not(decide::at3(c, r, links::link_at(touched::link3(r), lefts, rights))),
         4 => why_unchanged(c, r, decide::new4(r)),
         5 => why_not(places::at5(c, r, lefts, rights)),
-        6 => 0,
         7 => why_not(places::at7(c, r, lefts, rights)),
-        8 => 0,
         9 => why_not(decide::at9(c, r, links::link_at(touched::link7(r), lefts, rights))),
         10 => why_unchanged(c, r, decide::new10(r)),
-        11 => why_not(decide::at11(c, r, table::label_at(labels, touched::own_end(r)))),
+        11 => why_not(decide::at11(c, r, table::get_or(labels, touched::own_end(r), 0))),
         12 => why_not(pool::at12(c, r)),
         13 => why_not(pool::at13(c, r, next)),
         14 => why_not(decide::at14(c, r)),
         15 => why_not(pool::at15(c, r)),
-        16 => 0,
         _ => why_not(pool::at17(c, r)),
     }
 }
@@ -106,14 +99,7 @@ pub fn refusal(
         (tables_of c lefts.now rights.now labels.now marks.now next.now)
         (record { enough = leb c.tasks records; known = ltb task c.tasks }) r }
 {
-    let t = Lengths {
-        records,
-        lefts: lefts.len(),
-        rights: rights.len(),
-        labels: labels.len(),
-        marks: marks.len(),
-        next: next.len(),
-    };
+    let t = Lengths::of(records, lefts, rights, labels, marks, next);
     let why = admission::admit_step(c, task, t);
     if why != 0 {
         return why;

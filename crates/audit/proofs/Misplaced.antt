@@ -1,10 +1,10 @@
 -- The first position that stands too early, by the least answer event of those behind it.
-use mathlib.Core.{Bool.{Bool, ◌&&◌, cond}, List.{List, [], ◌∷◌}, Path.{◌≡◌, sym, ap, ◌∙◌}}
-use Prim.Native.Nat.{ℕ, suc, ◌+◌, ◌≤◌, min}
+use mathlib.Core.{Bool.{Bool, ◌&&◌}, List.{List, [], ◌∷◌}, Path.{◌≡◌, sym, ap, ◌∙◌}}
+use Prim.Native.Nat.{ℕ, suc, ◌<◌, ◌≤◌, min}
 use native.Mathlib.Omega.{arith}
-use lib.{Dec.{leb, ltb}, ListN.length}
-use borrow.Author.Tests.{le-leb, le-ltb, leb-false, leb-true, lt-ltb}
-use Rattle.model.proofs.Tests.Truth.{agree, and_of, and-true, either, split}
+use lib.{Dec.leb, ListN.length}
+use borrow.Author.Tests.{le-leb, leb-true, lt-leb}
+use Rattle.model.proofs.Tests.Truth.{agree, and_of, and-true, either}
 use Rattle.audit_model.specs.{declared.Finished.Finished, Audit.{all_of, in_order, not_earlier, numbered}}
 use Rattle.audit.specs.FirstMisplaced.{first_misplaced}
 
@@ -22,13 +22,15 @@ unfolding not_earlier
 none-earlier c [] h = sym (le-leb c.start 18446744073709551615 h)
 none-earlier c (d ∷ l) h = ap (λ (b : Bool). leb c.start d.end && b) (none-earlier c l h) ∙ leb_min c.start d.end (least_end l)
 
--- One call more in front, at index i.
-pub misplaced_turn : (c : Finished) (l : List Finished) (i first : ℕ) → c.start ≤ 18446744073709551615 → first ≡ i + 1 + first_misplaced l
-    → cond (ltb (least_end l) c.start) i first ≡ i + first_misplaced (c ∷ l)
-unfolding first_misplaced
-misplaced_turn c l i first h e = split (leb c.start (least_end l))
-    (λ t. rw (le-ltb (least_end l) c.start (leb-true c.start (least_end l) t), none-earlier c l h ∙ t) (omega arith))
-    (λ t. rw (lt-ltb (least_end l) c.start (leb-false c.start (least_end l) t), none-earlier c l h ∙ t) (omega arith))
+-- One call more in front: it stands too early, or not.
+module _ (c : Finished) (l : List Finished) (h : c.start ≤ 18446744073709551615) where
+  pub misplaced_here : least_end l < c.start → first_misplaced (c ∷ l) ≡ 0
+  unfolding first_misplaced
+  misplaced_here e = rw (none-earlier c l h, lt-leb c.start (least_end l) e)
+
+  pub misplaced_behind : c.start ≤ least_end l → first_misplaced (c ∷ l) ≡ suc (first_misplaced l)
+  unfolding first_misplaced
+  misplaced_behind e = rw (none-earlier c l h, le-leb c.start (least_end l) e)
 
 -- The first is a position of the order, or its length.
 pub misplaced_within : (cs : List Finished) (ks : List ℕ) → first_misplaced (in_order cs ks) ≤ length ks

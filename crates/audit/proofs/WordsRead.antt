@@ -30,7 +30,7 @@ module _ (ws : List ℕ) where
   pub read_is : (i : ℕ) → i < length ws / 7 → call_at ws i ≡ get_or (calls_in ws) i nobody
   read_is i h = sym (calls_at 0 (length ws / 7) i ws h ∙ (let z : 0 + i ≡ i = omega arith in ap (call_at ws) z))
 
-  number_is : (k i : ℕ) → i + 1 ≡ k → get_or (calls_in ws) i nobody ≡ numbered (calls_in ws) k
+  pub number_is : (k i : ℕ) → i + 1 ≡ k → get_or (calls_in ws) i nobody ≡ numbered (calls_in ws) k
   number_is k i e = let z : suc i ≡ k = omega arith in ap (numbered (calls_in ws)) z
 
   -- The call at index i of an order of known numbers.

@@ -21,19 +21,23 @@ pub fn call_at(words: &[u64], i: usize) -> Finished
     }
 }
 
+#[tactic(auto, unfolding(audit_model::specs::Audit::well_formed))]
 fn well_formed(c: Finished) -> bool
     ensures { result ≡ well_formed c }
 {
-    (c.kind <= 1) & (c.side <= 1) & (2 <= c.answer) & (c.answer <= 4) & (c.start < c.end)
+    (c.kind <= 1) & (c.side <= 1) & (2..=4).contains(&c.answer) & (c.start < c.end)
 }
 
 // No event of one is an event of the other.
+#[tactic(auto, unfolding(audit_model::specs::Audit::apart))]
 fn apart(c: Finished, d: Finished) -> bool
     ensures { result ≡ meaning.apart c d }
 {
     (c.start != d.start) & (c.start != d.end) & (c.end != d.start) & (c.end != d.end)
 }
 
+// A loop that is left at the first call that fails. By `all` over the indices `zc_audit_words` takes 32,710 instructions at
+// 64 calls, where bench/facts.txt has 30,864.
 fn apart_from(words: &[u64], at: usize, c: Finished) -> bool
     requires { at ≤ length words.now / 7 }
     ensures { result ≡ all_of (meaning.apart c) (drop at (calls_in words.now)) }
@@ -47,6 +51,7 @@ fn apart_from(words: &[u64], at: usize, c: Finished) -> bool
     true
 }
 
+// By `all` too `zc_audit_words` takes 869 bytes of code, where bench/facts.txt has 797.
 pub fn accepted(words: &[u64]) -> bool
     ensures { result ≡ meaning.accepted (calls_in words.now) }
 {
@@ -56,10 +61,7 @@ pub fn accepted(words: &[u64]) -> bool
     }
     for i in 0..n {
         let c = call_at(words, i);
-        if !well_formed(c) {
-            return false;
-        }
-        if !apart_from(words, i + 1, c) {
+        if !well_formed(c) || !apart_from(words, i + 1, c) {
             return false;
         }
     }

@@ -17,6 +17,7 @@ ghost use Rattle.audit_model.specs.{Audit.{all_of, in_order, replay, verdict}, L
 ghost use Rattle.audit.specs.FirstMisplaced.{first_misplaced};
 
 use audit_model::{Verdict, VerdictReply};
+use labels::Labels;
 
 // The calls up to the first position that stands too early, which fails whatever it answers.
 fn served(words: &[u64], order: &[u64], misplaced: usize) -> Verdict
@@ -24,16 +25,16 @@ fn served(words: &[u64], order: &[u64], misplaced: usize) -> Verdict
         × (misplaced ≡ first_misplaced (in_order (calls_in words.now) order.now)) }
     ensures { result ≡ replay 1 (in_order (calls_in words.now) order.now) [] }
 {
-    let mut buffer = [0; 128];
-    let mut low: usize = 64;
-    let mut high: usize = 64;
+    let mut places = [0; 128];
+    let mut labels = Labels {
+        places: &mut places,
+        low: 64,
+        high: 64,
+    };
     for i in 0..misplaced {
-        let s = labels::serve_label(words, (order[i] - 1) as usize, &mut buffer, low, high);
-        if !s.same {
+        if !labels.serve(words, (order[i] - 1) as usize) {
             return Verdict::Failed(i as u32 + 1);
         }
-        low = s.low;
-        high = s.high;
     }
     if misplaced < order.len() {
         return Verdict::Failed(misplaced as u32 + 1);
@@ -56,27 +57,11 @@ pub fn audit_words(words: &[u64], order: &[u64]) -> Verdict
     served(words, order, misplaced)
 }
 
-fn reply(v: Verdict) -> VerdictReply
-    ensures { result ≡ verdict_reply v }
-{
-    match v {
-        Verdict::Refused(why) => VerdictReply {
-            code: why,
-            position: 0,
-        },
-        Verdict::Failed(position) => VerdictReply { code: 1, position },
-        Verdict::Passed => VerdictReply {
-            code: 0,
-            position: 0,
-        },
-    }
-}
-
 // The verdict on no call.
 fn of_none(order: &[u64]) -> Verdict
     ensures { result ≡ verdict [] order.now }
 {
-    if order.len() == 0 {
+    if order.is_empty() {
         return Verdict::Passed;
     }
     Verdict::Failed(0)
@@ -88,9 +73,7 @@ pub extern "C" fn zc_audit_words(words: &[u64], order: &[u64]) -> VerdictReply
 {
     // Told before registers are saved and the queue is cleared.
     if words.len() < 7 {
-        let v = of_none(order);
-        return reply(v);
+        return VerdictReply::from(of_none(order));
     }
-    let v = audit_words(words, order);
-    reply(v)
+    VerdictReply::from(audit_words(words, order))
 }

@@ -1,18 +1,11 @@
 //! The claimed order, looked at from its end: whether it names every call once, and its first position that stands too early.
-ghost use mathlib.Core.{Bool.{true, cond}, Path.◌≡◌};
-ghost use Rattle.std.specs.Prelude.{◌/◌, ◌≤◌, min};
-ghost use lib.{Dec.ltb, ListN.length};
+ghost use mathlib.Core.{Bool.true, Path.◌≡◌};
+ghost use Rattle.std.specs.Prelude.{◌/◌, ◌≤◌, length};
 ghost use Rattle.model.specs.Sound.{from1};
 ghost use Rattle.audit_model.specs.{Audit.{all_of, in_order, rearranges}, LentHistory.calls_in};
 ghost use Rattle.audit.specs.FirstMisplaced.{first_misplaced};
 
 use crate::calls;
-
-fn known(k: u64, most: u64) -> bool
-    ensures { result ≡ from1 most k }
-{
-    (1 <= k) & (k <= most)
-}
 
 /// A mark for each number listed behind the position.
 pub fn is_rearranged(order: &[u64], n: usize) -> bool
@@ -23,14 +16,8 @@ pub fn is_rearranged(order: &[u64], n: usize) -> bool
         return false;
     }
     let mut listed = [0; 1];
-    let mut i = n;
-    while 0 < i {
-        i -= 1;
-        let k = order[i];
-        if !known(k, n as u64) {
-            return false;
-        }
-        if table::marked(&listed, k - 1) {
+    for &k in order.iter().rev() {
+        if !(1..=n as u64).contains(&k) || table::marked(&listed, k - 1) {
             return false;
         }
         table::set_mark(&mut listed, k - 1);
@@ -38,32 +25,20 @@ pub fn is_rearranged(order: &[u64], n: usize) -> bool
     true
 }
 
-fn smaller(x: u64, y: u64) -> u64
-    ensures { result ≡ min x y }
-{
-    if x < y { x } else { y }
-}
-
-// Position i is early where a call behind it was answered before its own started; else the first is as it was.
-fn sooner(least: u64, start: u64, i: usize, first: usize) -> usize
-    ensures { result ≡ cond (ltb least start) i first }
-{
-    if least < start { i } else { first }
-}
-
 /// By the least answer event behind the position.
+// A count, as `specs/FirstMisplaced.antt` defines it, up to which `served` goes: it would take an `Option` apart again.
 pub fn first_misplaced(words: &[u64], order: &[u64]) -> usize
     requires { all_of (from1 (length words.now / 7)) order.now ≡ true }
     ensures { result ≡ first_misplaced (in_order (calls_in words.now) order.now) }
 {
-    let mut least: u64 = 18446744073709551615;
+    let mut least = u64::MAX;
     let mut first = order.len();
-    let mut i = order.len();
-    while 0 < i {
-        i -= 1;
-        let c = calls::call_at(words, (order[i] - 1) as usize);
-        first = sooner(least, c.start, i, first);
-        least = smaller(least, c.end);
+    for (i, &k) in order.iter().enumerate().rev() {
+        let c = calls::call_at(words, (k - 1) as usize);
+        if least < c.start {
+            first = i;
+        }
+        least = least.min(c.end);
     }
     first
 }

@@ -1,11 +1,13 @@
 -- For every list of events: its effects, in the order of their places, are what the sequential deque served, with its replies.
+use Rattle.std.specs.Prelude.{Err, Ok}
 use mathlib.Core.{Bool.{Bool, false, true, ◌&&◌}, List.{List, [], ◌∷◌, ◌++◌, append_assoc}}
 use mathlib.Core.Path.{◌≡◌, refl, sym, ap, ◌∙◌, subst}
 use Prim.Native.Nat.{ℕ, suc, ◌<◌, ◌≤◌}
 use native.Mathlib.Omega.{arith}
 use lib.{Dec.eqb, ListN.length}
 use Rattle.model.specs.declared.{Answer.Answer, Entry.Entry, Op.{Op, TheVariants.{Push, Pop, PushPooled, Step}}}
-use Rattle.model.specs.{declared.Outcome.{Outcome, TheVariants.{Refused, Moved}}, Lists.All}
+use Rattle.model.specs.Outcomes.{Outcome}
+use Rattle.model.specs.{Lists.All}
 use Rattle.model.specs.Deque.{Served, says_no_free_slot, serve, serve_for, serve_pop, serve_push, take_first, seen_from}
 use Rattle.model.specs.History.{LedgerCall, Effect, Ending, Event, Ledger, accept, attend, begins, continued, ended}
 use Rattle.model.specs.History.{is_effect, is_open, lacks_slot, ledger_from, note, over, step_of, told_entry}
@@ -168,8 +170,8 @@ accepted n ev Step a l g =
 
 noted : (n : ℕ) (ev : Event) (o : Outcome) (l : Ledger) → Replayed n l → Replayed (suc n) (note n ev o l)
 unfolding note
-noted n ev (Refused why) l g = record { before = all_map (later n) l.calls g.before; replays = g.replays }
-noted n ev (Moved a) l g = accepted n ev ev.op a l g
+noted n ev (Err why) l g = record { before = all_map (later n) l.calls g.before; replays = g.replays }
+noted n ev (Ok a) l g = accepted n ev ev.op a l g
 
 pub replayed : (es : List Event) (n : ℕ) (l : Ledger) → Replayed n l → (m : ℕ) × Replayed m (ledger_from n l es)
 unfolding ledger_from

@@ -4,7 +4,8 @@ use Prim.Native.Nat.{ℕ, ◌<◌, ◌≤◌}
 use native.Mathlib.Omega.{arith}
 use borrow.Author.Tests.{le-leb, lt-ltb, ne_eqb}
 use Rattle.model.specs.declared.Answer.{Answer, TheVariants.{Running, Pushed, Empty, Popped, NoFreeSlot}}
-use Rattle.model.specs.{declared.Outcome.TheVariants.Moved, Calls.reply_of}
+use Rattle.model.specs.Outcomes.{Moved}
+use Rattle.model.specs.{Calls.reply_of}
 use Rattle.model.specs.History.{LedgerCall, Effect, Ending, Lawful, answered, pending}
 use Rattle.audit_model.specs.{declared.Finished.Finished, Audit.{apart, well_formed}}
 use Rattle.audit_model.specs.Written.{IsAnswered, IsTold, written}

@@ -3,7 +3,8 @@ use mathlib.Core.{Path.◌≡◌, Bool.cond, List.{List, [], ◌∷◌, map, rev
 use Rattle.std.specs.Prelude.{ℕ, ◌≤◌}
 use lib.{Dec.ltb, ListN.length}
 use Rattle.model.specs.{declared.Answer.{Answer, TheVariants.{Running, Pushed, Empty, Popped, NoFreeSlot}}, Lists.All}
-use Rattle.model.specs.{declared.{Entry.Entry, Outcome.TheVariants.Moved}, Calls.reply_of, Tables.Queue}
+use Rattle.model.specs.Outcomes.{Moved}
+use Rattle.model.specs.{declared.Entry.Entry, Calls.reply_of, Tables.Queue}
 use Rattle.model.specs.History.{AfterOpening, LedgerCall, Effect, Ending, Request, answered, ledger, pending, run}
 use Rattle.audit_model.specs.{declared.{Finished.Finished, Verdict.TheVariants.Passed}, Audit.{nobody, verdict}}
 

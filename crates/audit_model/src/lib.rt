@@ -1,7 +1,11 @@
 //! A history of finished calls and the verdict on it, by value. What the verdict is stands in `specs/Audit.antt`.
 #![tactic(auto)]
 
-/// A finished call, as a history tells it. The task is told, and decides nothing.
+ghost use Rattle.std.specs.Prelude.{◌≡◌};
+ghost use Rattle.audit_model.specs.LentHistory.{verdict_reply};
+
+/// A finished call, as a history tells it. The task is told, and decides nothing. Kind, side and answer are numbers and
+/// no enums, since C lends any, and others than these are refused.
 #[repr(C)]
 #[derive(Clone, Copy)]
 pub struct Finished {
@@ -20,6 +24,7 @@ pub struct Finished {
     pub end: u64,
 }
 
+// Its numbers stay, since `zc_audit_words` has them in its reply, and `Meaning` of specs/Laws.antt speaks of them.
 #[derive(Clone, Copy)]
 pub enum Verdict {
     /// With the document's number, 40.
@@ -37,4 +42,17 @@ pub struct VerdictReply {
     pub code: u32,
     /// Where it fails.
     pub position: u32,
+}
+
+impl From<Verdict> for VerdictReply {
+    ghost from_gives = { λ v reply. reply ≡ verdict_reply v };
+
+    fn from(v: Verdict) -> Self {
+        let (code, position) = match v {
+            Verdict::Refused(why) => (why, 0),
+            Verdict::Failed(position) => (1, position),
+            Verdict::Passed => (0, 0),
+        };
+        VerdictReply { code, position }
+    }
 }

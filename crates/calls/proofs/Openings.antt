@@ -7,9 +7,17 @@ use borrow.Author.Tests.{ltb-true, leb-true, eqb-true, le-leb, eq-eqb, ne_eqb, n
 use Rattle.model.specs.{declared.Record.Record, Tables.{Tables, Queue, tables_of, opened_control, unused}, Sound.rows_fit}
 use Rattle.model.specs.{Refusals.{opening_rules, open_refusal}, Calls.{stacked, opened, open_as, OpenDone}, Lists.zeroed}
 use Rattle.model.proofs.Tests.{Rules.cleared, Truth.and-true}
-use Rattle.model.specs.declared.Opening.TheVariants as opening
-use Rattle.table.specs.{Zeroing.zeroing, Stacking.stacking}
+use Rattle.model.specs.Outcomes.{Opened, Refused}
+use Rattle.sound.specs.{declared.Lengths.Lengths, Lengths.{lengths_of, lengths_fit}}
+use Rattle.table.specs.{Filling.filling, Stacking.stacking}
 use Rattle.calls.specs.Opening.{opening_refusal, many_records, OpenedParts, open_tables}
+
+-- The number found by the lengths is the first rule's.
+pub found : (pooled : Bool) (q : Tables) (n tasks slots r : ℕ) (t : Lengths) → t ≡ lengths_of q n
+    → r ≡ opening_refusal tasks slots (lengths_fit pooled slots t && leb tasks t.records)
+    → r ≡ opening_refusal tasks slots (rows_fit pooled slots q && leb tasks n)
+unfolding rows_fit lengths_fit
+found pooled q n tasks slots r t m e = e ∙ ap (λ (l : Lengths). opening_refusal tasks slots (lengths_fit pooled slots l && leb tasks l.records)) m
 
 -- No rule applies: the slots are few, and the tables fit.
 pub record Accepted (slots : ℕ) (fits : Bool) : Type 0 where
@@ -26,8 +34,8 @@ accepted tasks slots fits e =
     }
 
 -- A table with more than n entries has its first n + 1 zeroed.
-zeroes : (n : ℕ) (l : List ℕ) → ltb n (length l) ≡ true → zeroing (n + 1) l ≡ zeroed (n + 1) 0 l
-unfolding zeroing
+zeroes : (n : ℕ) (l : List ℕ) → ltb n (length l) ≡ true → filling (n + 1) 0 l ≡ zeroed (n + 1) 0 l
+unfolding filling
 zeroes n l e = rw (le-leb (n + 1) (length l) (omega (arith, ltb-true n (length l) e)))
 
 -- A pooled queue's next table that has a row for each slot is stacked, a named queue's kept.
@@ -49,18 +57,18 @@ module _ (pooled : Bool) (q : Tables) (records tasks slots : ℕ) where
   counted = rw (length-replicate records unused)
 
   pub refused_parts : (tag : ℕ) → (why ≡ 0 → ⊥)
-      → ◌≡◌ {A = OpenedParts} (record { tables = q; clear = 0; outcome = opening.Refused why }) (open_tables pooled q records tasks slots tag)
+      → ◌≡◌ {A = OpenedParts} (record { tables = q; clear = 0; outcome = Refused why }) (open_tables pooled q records tasks slots tag)
   unfolding open_tables open_as
   refused_parts tag h = rw (counted, ne_eqb why 0 h)
 
   abbrev opened_tables : ℕ → Tables
   opened_tables tag =
       tables_of (opened_control pooled tasks slots tag)
-      (zeroing (slots + 1) q.lefts) (zeroing (slots + 1) q.rights) (zeroing (slots + 1) q.labels)
-      (zeroing (slots / 64 + 1) q.marks) (stacking pooled slots q.next)
+      (filling (slots + 1) 0 q.lefts) (filling (slots + 1) 0 q.rights) (filling (slots + 1) 0 q.labels)
+      (filling (slots / 64 + 1) 0 q.marks) (stacking pooled slots q.next)
 
   pub opened_parts : (tag : ℕ) → why ≡ 0
-      → ◌≡◌ {A = OpenedParts} (record { tables = opened_tables tag; clear = tasks; outcome = opening.Opened })
+      → ◌≡◌ {A = OpenedParts} (record { tables = opened_tables tag; clear = tasks; outcome = Opened })
       (open_tables pooled q records tasks slots tag)
   unfolding open_tables open_as opened rows_fit
   opened_parts tag h =
@@ -105,7 +113,7 @@ module _ (pooled : Bool) (q : Queue) (tasks slots tag : ℕ) where
   same_why = rw (length-replicate (length q.records) unused)
 
   abbrev done : Bool → ℕ → Queue → OpenDone
-  done b n p = cond b (record { queue = opened pooled p tasks slots tag; outcome = opening.Opened }) (record { queue = p; outcome = opening.Refused n })
+  done b n p = cond b (record { queue = opened pooled p tasks slots tag; outcome = Opened }) (record { queue = p; outcome = Refused n })
 
   abbrev parts : Bool → ℕ → OpenedParts
   parts b n = record { tables = (done b n few).queue.tables; clear = cond b tasks 0; outcome = (done b n few).outcome }

@@ -3,7 +3,8 @@ use mathlib.Core.{Path.{◌≡◌, refl, ap, ◌∙◌}, Bool.{Bool, true, false
 use Prim.Native.Nat.{ℕ}
 use lib.Dec.{eqb}
 use Rattle.model.specs.declared.{Control.Control, Call.Call, Record.Record, Asked.Asked, Answer.TheVariants.Running}
-use Rattle.model.specs.{declared.{Outcome.TheVariants.{Refused, Moved}, Transition.Transition}, Route.counted}
+use Rattle.model.specs.Outcomes.{Moved, Refused}
+use Rattle.model.specs.{declared.Transition.Transition, Route.counted}
 use Rattle.model.specs.{Calls.{decide, push_start, push_pooled_start, pop_start}, Sound.rows_fit}
 use Rattle.model.specs.Tables.{Tables, is_pooled, tables_of, with_call, with_taken, started, asking}
 use Rattle.model.specs.Refusals.{Lent, start_refusal, named_push, pooled_push, nothing_asked}

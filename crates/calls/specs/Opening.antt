@@ -1,7 +1,8 @@
 -- An opening in parts: the tables, and how many records are zeroed.
 use Rattle.std.specs.Prelude.{Bool, cond, ℕ}
 use lib.{Dec.eqb, ListN.replicate}
-use Rattle.model.specs.{declared.Opening.Opening, Tables.{Tables, Queue, unused}, Calls.open_as}
+use Rattle.model.specs.Outcomes.{Opening}
+use Rattle.model.specs.{Tables.{Tables, Queue, unused}, Calls.open_as}
 use Rattle.model.specs.Refusals.{first, opening_rules, open_refusal}
 
 -- Why it is refused, where the tables are long enough or not.

@@ -2,7 +2,8 @@
 use mathlib.Core.{Bool.{cond, false}, List.{List, []}}
 use Rattle.std.specs.Prelude.{ℕ, eqb}
 use Rattle.model.specs.declared.{Control.Control, Call.Call, Asked.Asked, Answer.TheVariants.Running}
-use Rattle.model.specs.declared.{Outcome.TheVariants.{Refused, Moved}, Transition.Transition}
+use Rattle.model.specs.Outcomes.{Moved, Refused}
+use Rattle.model.specs.declared.{Transition.Transition}
 use Rattle.model.specs.{Tables.{Tables, tables_of, is_pooled, with_taken}, Refusals.{start_refusal, named_push}}
 use Rattle.sound.specs.{declared.Lengths.Lengths, Lengths.{lengths_fit, among_many}}
 

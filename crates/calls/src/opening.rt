@@ -5,7 +5,7 @@ ghost use Rattle.model.specs.Tables.{tables_of, opened_control};
 ghost use Rattle.sound.specs.Lengths.{lengths_fit};
 ghost use Rattle.calls.specs.Opening.{opening_refusal, OpenedParts, open_tables};
 
-use model::{Control, Opening};
+use model::{Control, Opening, Refusal};
 use sound::Lengths;
 use word::Anchor;
 
@@ -80,32 +80,25 @@ pub fn open_tables(
         (tables_of c lefts.old rights.old labels.old marks.old next.old)
         records tasks slots tag) }
 {
-    let t = Lengths {
-        records,
-        lefts: lefts.len(),
-        rights: rights.len(),
-        labels: labels.len(),
-        marks: marks.len(),
-        next: next.len(),
-    };
+    let t = Lengths::of(records, lefts, rights, labels, marks, next);
     let why = open_refusal(pooled, tasks, slots, t);
     if why != 0 {
         return OpenedTables {
             control: c,
             clear: 0,
-            outcome: Opening::Refused(why),
+            outcome: Err(Refusal { number: why }),
         };
     }
     let rows = slots + 1;
-    table::zero_words(lefts, rows);
-    table::zero_words(rights, rows);
-    table::zero_labels(labels, rows);
-    table::zero_words(marks, slots / 64 + 1);
+    table::fill(lefts, rows, 0);
+    table::fill(rights, rows, 0);
+    table::fill(labels, rows, 0);
+    table::fill(marks, slots / 64 + 1, 0);
     table::stack_slots(pooled, next, slots);
     let control = opened_control(pooled, tasks, slots, tag);
     OpenedTables {
         control,
         clear: tasks as usize,
-        outcome: Opening::Opened,
+        outcome: Ok(()),
     }
 }

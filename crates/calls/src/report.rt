@@ -3,9 +3,9 @@ ghost use Rattle.std.specs.Prelude.{◌≡◌, leb};
 ghost use Rattle.model.specs.{Tables.tables_of, Report.tell};
 ghost use Rattle.calls.specs.Telling.{countable};
 
-use model::{Control, Report, Reported};
+use model::{Control, Refusal, Report, Reported};
 use sound::{Lengths, admission};
-use walk::Tally;
+use walk::Unsound;
 use word::Anchor;
 
 /// How many records the report looks at: one for each task, or none where it will be refused.
@@ -33,25 +33,17 @@ pub fn told(
         (leb c.tasks records)
         busy }
 {
-    let t = Lengths {
-        records,
-        lefts: lefts.len(),
-        rights: rights.len(),
-        labels: labels.len(),
-        marks: marks.len(),
-        next: next.len(),
-    };
+    let t = Lengths::of(records, lefts, rights, labels, marks, next);
     let why = admission::table_refusal(c, t);
     if why != 0 {
-        return Reported::Refused(why);
+        return Err(Refusal { number: why });
     }
-    let walked = walk::waiting(c, lefts, rights);
-    match walked {
-        Tally::Broken => Reported::Refused(34),
-        Tally::Labels(waiting) => {
+    match walk::waiting(c, lefts, rights) {
+        Err(Unsound) => Err(Refusal { number: 34 }),
+        Ok(waiting) => {
             let anchor = Anchor::unpack(c.anchor);
             let taken = marks::taken(c.slots, marks);
-            Reported::Told(Report {
+            Ok(Report {
                 anchor,
                 busy,
                 waiting,

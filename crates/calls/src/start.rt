@@ -5,7 +5,7 @@ ghost use Rattle.model.specs.{Tables.{new_call, started, asking}, Refusals.{noth
 ghost use Rattle.calls.specs.Starting.{decided, refused_by, touching, push_refused_by, stored_unless};
 
 use crate::refusal;
-use model::{Answer, Asked, Call, Control, Outcome, Transition};
+use model::{Answer, Asked, Call, Control, Refusal, Transition};
 use sound::{Lengths, admission};
 
 /// The whole record of a call at its first place.
@@ -34,14 +34,14 @@ fn decided(c: Control, r: Call, why: u32, task: Call) -> Transition
         Transition {
             control: c,
             task,
-            outcome: Outcome::Moved(answer),
+            outcome: Ok(answer),
             failed: false,
         }
     } else {
         Transition {
             control: c,
             task: r,
-            outcome: Outcome::Refused(why),
+            outcome: Err(Refusal { number: why }),
             failed: false,
         }
     }
@@ -112,7 +112,7 @@ pub fn push_start(
     if why != 0 {
         return decided(c, r, why, push);
     }
-    table::put_label(labels, slot, label);
+    table::set(labels, slot, label);
     table::set_mark(marks, slot);
     decided(c, r, why, push)
 }

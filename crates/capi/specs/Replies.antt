@@ -1,21 +1,21 @@
 -- Answers in numbers, beside what each lent table then holds.
+use Rattle.std.specs.Prelude.{Err, Ok}
 use mathlib.Core.{Bool.{Bool, not, cond}, List.List}
 use Rattle.std.specs.Prelude.{ℕ}
 use lib.{Dec.{eqb, ltb}, ListN.{get_or, replicate, set}}
-use Rattle.model.specs.declared.{Opening.Opening, Outcome.Outcome, Reply.Reply, Reported.Reported, Record.Record}
+use Rattle.model.specs.Outcomes.{Opening, Outcome, Reported}
+use Rattle.model.specs.declared.{Reply.Reply, Record.Record}
 use Rattle.model.specs.{Tables.{Queue, unused}, Report.report_code, Calls.{OpenDone, Done, opening_code, reply_of}}
 use Rattle.model.specs.Lists.{count, zeroed, listed}
-use Rattle.model.specs.declared.Opening.TheVariants as opening
-use Rattle.model.specs.declared.Reported.TheVariants as reported
 use Rattle.capi.specs.declared.ReportReply.{ReportReply}
 
 -- A report with the tasks' counts beside it; all 0 in a refusal.
 abbrev pub report_reply_of : Reported → List ℕ → ReportReply
-report_reply_of (reported.Refused n) retries =
-    record { code = report_code (reported.Refused n); tag = 0; status = 0; left = 0; right = 0; busy = 0; waiting = 0; taken = 0; retries = replicate 16 0 }
-report_reply_of (reported.Told r) retries =
+report_reply_of (Err refusal) retries =
+    record { code = refusal.number; tag = 0; status = 0; left = 0; right = 0; busy = 0; waiting = 0; taken = 0; retries = replicate 16 0 }
+report_reply_of (Ok r) retries =
     record {
-      code = report_code (reported.Told r);
+      code = report_code (Ok r);
       tag = r.anchor.tag;
       status = r.anchor.status;
       left = r.anchor.left;
@@ -42,8 +42,8 @@ pub record Coded : Type 0 where
   pub code : ℕ
 
 abbrev pub uppers_at : ℕ → List ℕ → Opening → List ℕ
-uppers_at tasks us opening.Opened = zeroed tasks 0 us
-uppers_at tasks us (opening.Refused n) = us
+uppers_at tasks us (Ok u) = zeroed tasks 0 us
+uppers_at tasks us (Err refusal) = us
 
 abbrev pub coded : ℕ → List ℕ → OpenDone → Coded
 coded tasks us d =

@@ -7,13 +7,14 @@ pub mod openings;
 ghost use mathlib.Core.{Path.◌≡◌, List.List};
 ghost use Rattle.std.specs.Prelude.{ℕ, ◌≤◌, length};
 ghost use Rattle.model.specs.{declared.Op.TheVariants.{Push, Pop, PushPooled, Step}, Calls.act};
-ghost use Rattle.model.specs.{declared.Reported.TheVariants.{Refused, Told}, Report.{report, retry_counts}};
+ghost use Rattle.model.specs.Outcomes.{Refused};
+ghost use Rattle.model.specs.Report.{report, retry_counts};
 ghost use Rattle.model.specs.Ends.{ends_call, is_moved};
 ghost use Rattle.layout.specs.Rows.{queue_in, records_of, uppers_of};
 ghost use Rattle.capi.specs.Replies.{report_reply_of, busy_in, counts_in, Replied, replied};
 
 use calls::report;
-use model::{Reply, Report, Reported};
+use model::{Reply, Report};
 use rows::op;
 
 /// A report in numbers.
@@ -51,7 +52,7 @@ fn refused_report(number: u32) -> ReportReply
 }
 
 fn told_report(t: Report, retries: [u64; 16]) -> ReportReply
-    ensures { result ≡ report_reply_of (Told t) retries }
+    ensures { result ≡ report_reply_of (Ok t) retries }
 {
     ReportReply {
         code: 0,
@@ -202,15 +203,11 @@ fn look(records: &[[u64; layout::RECORD_WORDS]], n: usize) -> Looked
     requires { (n ≤ length records.now) × (n ≤ 16) }
     ensures { (result.busy ≡ busy_in n (records_of records.now)) × (result.retries ≡ counts_in n (records_of records.now)) }
 {
-    let mut busy: u64 = 0;
-    let mut retries: [u64; 16] = [0; 16];
-    let mut i: usize = 0;
-    while i < n {
-        let row = records[i];
-        let r = layout::call_of(row);
-        busy += (r.place != 0) as u64;
-        retries[i] = layout::retries_of(row);
-        i += 1;
+    let mut busy = 0;
+    let mut retries = [0; 16];
+    for (i, row) in records[..n].iter().enumerate() {
+        busy += u64::from(layout::call_of(*row).place != 0);
+        retries[i] = layout::retries_of(*row);
     }
     Looked { busy, retries }
 }
@@ -231,19 +228,17 @@ pub extern "C" fn zc_report(
         lefts.now rights.now labels.now marks.now next.now in
         result ≡ report_reply_of (report q) (retry_counts q) }
 {
-    let row = *control;
-    let c = layout::control_of(row);
+    let c = layout::control_of(*control);
     let n = records.len();
     let k = report::to_count(c, n);
     let l = look(records, k);
     let r = report::told(c, n, l.busy, lefts, rights, labels, marks, next);
     match r {
-        Reported::Refused(number) => {
-            return refused_report(number);
+        Err(refusal) => {
+            return refused_report(refusal.number);
         }
-        Reported::Told(t) => {
-            let retries = l.retries;
-            return told_report(t, retries);
+        Ok(t) => {
+            return told_report(t, l.retries);
         }
     }
 }

@@ -1,7 +1,7 @@
 // The two ways of opening: a named queue, and a pooled one.
-ghost use mathlib.Core.{Path.◌≡◌, List.List};
+ghost use mathlib.Core.{Path.◌≡◌, Bool.false, List.List};
 ghost use Rattle.std.specs.Prelude.{ℕ};
-ghost use Rattle.model.specs.Calls.{open_queue, open_pooled, opening_code};
+ghost use Rattle.model.specs.Calls.{open_as, open_queue, open_pooled, opening_code};
 ghost use Rattle.layout.specs.Rows.{queue_in, uppers_of};
 ghost use Rattle.capi.specs.Replies.{Coded, coded};
 
@@ -12,9 +12,66 @@ fn opening_code(o: Opening) -> u32
     ensures { result ≡ opening_code o }
 {
     match o {
-        Opening::Refused(number) => number,
-        Opening::Opened => 0,
+        Err(refusal) => refusal.number,
+        Ok(()) => 0,
     }
+}
+
+/// Opens a queue of either kind: 0, or the number of a refusal. Of a named one the next rows keep their values, whatever they are.
+/// It is compiled into both calls: one that they share makes each slower.
+#[inline(always)]
+fn open(
+    control: &mut [u64; layout::CONTROL_WORDS],
+    records: &mut [[u64; layout::RECORD_WORDS]],
+    pooled: bool,
+    tasks: u64,
+    slots: u64,
+    tag: u32,
+    lefts: &mut [u64],
+    rights: &mut [u64],
+    labels: &mut [u32],
+    marks: &mut [u64],
+    next: &mut [u64],
+) -> u32
+    ensures whole { ◌≡◌ {A = Coded}
+        (record {
+          queue = queue_in control.new records.new
+              lefts.new rights.new labels.new marks.new next.new;
+          uppers = uppers_of records.new;
+          code = result;
+        })
+        (coded tasks (uppers_of records.old)
+        (open_as pooled (queue_in control.old records.old
+        lefts.old rights.old labels.old marks.old next.old)
+        tasks slots tag)) }
+    ensures named { pooled ≡ false → (any : List ℕ) → ◌≡◌ {A = Coded}
+        (record {
+          queue = queue_in control.new records.new lefts.new rights.new labels.new marks.new any;
+          uppers = uppers_of records.new;
+          code = result;
+        })
+        (coded tasks (uppers_of records.old)
+        (open_queue (queue_in control.old records.old
+        lefts.old rights.old labels.old marks.old any)
+        tasks slots tag)) }
+{
+    let c = layout::control_of(*control);
+    let made = opening::open_tables(
+        c,
+        pooled,
+        records.len(),
+        tasks,
+        slots,
+        tag,
+        lefts,
+        rights,
+        labels,
+        marks,
+        next,
+    );
+    *control = layout::control_row(made.control);
+    layout::clear(records, made.clear);
+    opening_code(made.outcome)
 }
 
 /// Opens a named queue: 0, or the number of a refusal. Whatever the next rows, they keep their values.
@@ -41,19 +98,19 @@ pub extern "C" fn zc_open(
         lefts.old rights.old labels.old marks.old next)
         tasks slots tag)) }
 {
-    let n = records.len();
-    let row = *control;
-    let c = layout::control_of(row);
-    let mut none: [u64; 1] = [0];
-    let m = opening::open_tables(
-        c, false, n, tasks, slots, tag, lefts, rights, labels, marks, &mut none,
-    );
-    let d = m.control;
-    let after = layout::control_row(d);
-    *control = after;
-    layout::clear(records, m.clear);
-    let o = m.outcome;
-    opening_code(o)
+    open(
+        control,
+        records,
+        false,
+        tasks,
+        slots,
+        tag,
+        lefts,
+        rights,
+        labels,
+        marks,
+        &mut [0],
+    )
 }
 
 /// Opens a pooled queue, all its slots stacked: 0, or the number of a refusal.
@@ -82,16 +139,7 @@ pub extern "C" fn zc_open_pooled(
         lefts.old rights.old labels.old marks.old next.old)
         tasks slots tag)) }
 {
-    let n = records.len();
-    let row = *control;
-    let c = layout::control_of(row);
-    let m = opening::open_tables(
-        c, true, n, tasks, slots, tag, lefts, rights, labels, marks, next,
-    );
-    let d = m.control;
-    let after = layout::control_row(d);
-    *control = after;
-    layout::clear(records, m.clear);
-    let o = m.outcome;
-    opening_code(o)
+    open(
+        control, records, true, tasks, slots, tag, lefts, rights, labels, marks, next,
+    )
 }

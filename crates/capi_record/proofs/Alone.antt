@@ -1,9 +1,10 @@
 -- The call over rows: what its parts say comes to what it means.
 use mathlib.Core.{Path.{◌≡◌, sym, ap, ◌∙◌}, Bool.Bool, List.List}
 use Prim.Native.Nat.{ℕ}
-use Rattle.model.specs.{declared.{Control.Control, Outcome.{Outcome, TheVariants.Refused}, Reply.Reply}, Sound.rows_fit}
+use Rattle.model.specs.Outcomes.{Outcome, Refused}
+use Rattle.model.specs.{declared.{Control.Control, Reply.Reply}, Sound.rows_fit}
 use Rattle.model.specs.{Tables.{Tables, is_pooled, tables_of}, Refusals.{alone, admission}, Calls.{step_lent, reply_of}}
-use Rattle.sound.specs.Lengths.{lengths_of, lengths_fit}
+use Rattle.sound.specs.{declared.Lengths.Lengths, Lengths.{lengths_of, lengths_fit}}
 use Rattle.engine.proofs.InParts.{turned_away, admitted}
 use Rattle.layout.specs.Rows.{control_of, record_of, upper_of}
 use Rattle.rows.specs.Moved.{RowMoved}
@@ -22,9 +23,10 @@ module _ (ws row lefts rights labels marks next : List ℕ) (c : Control) (ec : 
       ◌≡◌ {A = RepliedAlone} (record { tables = q'; task = record_of row'; upper = upper_of row'; reply = n })
       (replied_alone (upper_of row) (step_lent before (record_of row)))
 
-  module _ (why : ℕ) (told : why ≡ admission c (fit c) alone) (o : Outcome) (n : Reply) (en : n ≡ reply_of o) where
+  module _ (why : ℕ) (l : Lengths) (el : l ≡ lengths_of before 1) (told : why ≡ admission c (lengths_fit (is_pooled c) c.slots l) alone)
+      (o : Outcome) (n : Reply) (en : n ≡ reply_of o) where
     asked : why ≡ admission (control_of ws) (fit (control_of ws)) alone
-    asked = told ∙ ap (λ (d : Control). admission d (fit d) alone) ec
+    asked = told ∙ ap (λ (l : Lengths). admission c (lengths_fit (is_pooled c) c.slots l) alone) el ∙ ap (λ (d : Control). admission d (fit d) alone) ec
 
     -- Not admitted: the number alone.
     pub refused : (why ≡ 0 → ⊥) → o ≡ Refused why → Replies before row n

@@ -36,14 +36,7 @@ pub extern "C" fn zc_step_record(
 {
     let words = *control;
     let c = layout::control_of(words);
-    let t = Lengths {
-        records: 1,
-        lefts: lefts.len(),
-        rights: rights.len(),
-        labels: labels.len(),
-        marks: marks.len(),
-        next: next.len(),
-    };
+    let t = Lengths::of(1, lefts, rights, labels, marks, next);
     let why = admission::admit_alone(c, t);
     if why != 0 {
         let o = engine::refuse(why);

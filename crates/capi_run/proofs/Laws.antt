@@ -1,7 +1,8 @@
 -- A refused run is its first step's refusal.
 use mathlib.Core.{Bool.cond, Path.ap}
 use Prim.Native.Nat.{ℕ}
-use Rattle.model.specs.{declared.Outcome.Outcome, Tables.Queue, Ends.is_moved, Solo.{SoloDone, solo_run, solo_steps}}
+use Rattle.model.specs.Outcomes.{Outcome}
+use Rattle.model.specs.{Tables.Queue, Ends.is_moved, Solo.{SoloDone, solo_run, solo_steps}}
 use Rattle.model.proofs.Laws.Runs.{run-refused}
 use Rattle.capi_run.specs.{Replies.ran, Laws.RefusalKeeps}
 

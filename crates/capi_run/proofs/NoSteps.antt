@@ -4,7 +4,8 @@ use Prim.Native.Nat.{ℕ}
 use lib.{Dec.{leb, ltb}, ListN.{length, set}}
 use borrow.Author.Tests.{eq-eqb, ne_eqb}
 use Rattle.model.specs.declared.{Control.Control, Call.Call, Answer.TheVariants.Running, Op.TheVariants.Step}
-use Rattle.model.specs.{declared.Outcome.TheVariants.{Refused, Moved}, Tables.{Queue, record_at, tables_of}}
+use Rattle.model.specs.Outcomes.{Moved, Refused}
+use Rattle.model.specs.Tables.{Queue, record_at, tables_of}
 use Rattle.model.specs.{Refusals.{among, step_refusal}, Calls.{act, act_on, finish, step}, Ends.{is_moved, ends_call}}
 use Rattle.model.{specs.Solo.{SoloDone, solo_run, solo_steps}, proofs.Tests.Truth.by_test}
 use Rattle.layout.{specs.Rows.{control_of, queue_in}, proofs.Rows.length_records}

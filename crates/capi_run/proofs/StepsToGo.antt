@@ -1,11 +1,13 @@
 -- A run of steps, one step after another: with k steps made of n, what is left leads where the whole run leads.
+use Rattle.std.specs.Prelude.{Err, Ok}
 use mathlib.Core.{Path.{◌≡◌, refl, sym, ap, ◌∙◌}, Bool.{true, false, cond}, List.List}
 use Prim.Native.Nat.{ℕ, zero, suc, ◌+◌, ◌-◌, ◌<◌, ◌≤◌}
 use native.Mathlib.Omega.{arith}
 use lib.{Dec.eqb, ListN.set}
 use borrow.Author.Tests.{eq-eqb, ne_eqb}
 use Rattle.model.specs.declared.{Answer.TheVariants.{Running, Pushed, Empty, Popped, NoFreeSlot}, Op.TheVariants.Step}
-use Rattle.model.specs.{declared.Outcome.{Outcome, TheVariants.{Refused, Moved}}, Tables.{Queue, record_at}}
+use Rattle.model.specs.Outcomes.{Moved, Outcome}
+use Rattle.model.specs.Tables.{Queue, record_at}
 use Rattle.model.specs.{Calls.{Done, act}, Ends.{is_moved, is_running, ends_call}}
 use Rattle.model.specs.Solo.{SoloDone, last_step, one_more, resting, solo_run, solo_steps}
 use Rattle.model.proofs.{Tests.Truth.not_both, Laws.Refusals.act-refused}
@@ -21,16 +23,16 @@ counting d n = record { queue = d.queue; outcome = d.outcome; steps = n }
 
 -- A step that answers running is made and ends no call; a refused one ends none either.
 pub runs_on : (o : Outcome) → is_running o ≡ true → (is_moved o ≡ true) × (ends_call o ≡ false)
-runs_on (Refused w) h = absurd (not_both h refl)
-runs_on (Moved (Running p)) h = (refl, refl)
-runs_on (Moved Pushed) h = absurd (not_both h refl)
-runs_on (Moved Empty) h = absurd (not_both h refl)
-runs_on (Moved (Popped e)) h = absurd (not_both h refl)
-runs_on (Moved NoFreeSlot) h = absurd (not_both h refl)
+runs_on (Err w) h = absurd (not_both h refl)
+runs_on (Ok (Running p)) h = (refl, refl)
+runs_on (Ok Pushed) h = absurd (not_both h refl)
+runs_on (Ok Empty) h = absurd (not_both h refl)
+runs_on (Ok (Popped e)) h = absurd (not_both h refl)
+runs_on (Ok NoFreeSlot) h = absurd (not_both h refl)
 
 pub not_made : (o : Outcome) → is_moved o ≡ false → (is_running o ≡ false) × (ends_call o ≡ false)
-not_made (Refused w) h = (refl, refl)
-not_made (Moved a) h = absurd (not_both refl h)
+not_made (Err w) h = (refl, refl)
+not_made (Ok a) h = absurd (not_both refl h)
 
 module _ (t : ℕ) where
   -- What is left of n steps once k are made.
@@ -80,8 +82,8 @@ module _ (t : ℕ) where
     unchanged m = go d.outcome refl
       where
         go : (o : Outcome) → d.outcome ≡ o → d.queue ≡ q
-        go (Refused why) z = ap (λ (x : Done). x.queue) e ∙ act-refused q t Step why (ap (λ (x : Done). x.outcome) (sym e) ∙ z)
-        go (Moved a) z = absurd (not_both (ap is_moved z) m)
+        go (Err refusal) z = ap (λ (x : Done). x.queue) e ∙ act-refused q t Step refusal.number (ap (λ (x : Done). x.outcome) (sym e) ∙ z)
+        go (Ok a) z = absurd (not_both (ap is_moved z) m)
 
   to_go_none : (n k : ℕ) (q : Queue) → n ≤ k → (k ≡ 0 → ⊥) → further k (resting q t) ≡ to-go n k q
   unfolding solo_steps

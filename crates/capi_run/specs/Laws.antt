@@ -1,7 +1,8 @@
 -- What is promised of a run beyond what it answers. (Document 01, refusals: a refusal is its number alone; every table keeps its contents.)
 use mathlib.Core.{List.List, Path.◌≡◌}
 use Rattle.std.specs.Prelude.{ℕ}
-use Rattle.model.specs.{declared.{Op.TheVariants.Step, Outcome.TheVariants.Refused}, Tables.Queue, Calls.act}
+use Rattle.model.specs.Outcomes.{Refused}
+use Rattle.model.specs.{declared.Op.TheVariants.Step, Tables.Queue, Calls.act}
 use Rattle.model.specs.Solo.{solo_run}
 use Rattle.capi_run.specs.Replies.{Ran, ran, run_reply_of}
 

@@ -2,7 +2,8 @@
 -- the step that ends the call zeroes it with the record.
 use mathlib.Core.{Bool.cond, List.List}
 use Rattle.std.specs.Prelude.{ℕ, set}
-use Rattle.model.specs.{declared.Outcome.Outcome, Tables.Queue, Calls.reply_of, Ends.ends_call, Solo.SoloDone}
+use Rattle.model.specs.Outcomes.{Outcome}
+use Rattle.model.specs.{Tables.Queue, Calls.reply_of, Ends.ends_call, Solo.SoloDone}
 use Rattle.capi_run.specs.declared.RunReply.{RunReply}
 
 abbrev pub run_reply_of : Outcome → ℕ → RunReply

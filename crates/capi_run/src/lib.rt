@@ -3,12 +3,13 @@
 #![tactic(auto)]
 
 ghost use Rattle.std.specs.Prelude.{◌≡◌, get_or};
-ghost use Rattle.model.specs.{declared.{Answer.TheVariants.Running, Outcome.TheVariants.Moved}, Tables.unused};
+ghost use Rattle.model.specs.Outcomes.{Moved};
+ghost use Rattle.model.specs.{declared.Answer.TheVariants.Running, Tables.unused};
 ghost use Rattle.model.specs.Solo.{solo_run};
 ghost use Rattle.layout.specs.Rows.{queue_in, records_of, uppers_of};
 ghost use Rattle.capi_run.specs.Replies.{run_reply_of, Ran, ran};
 
-use model::{Answer, Outcome};
+use model::{Answer, Outcome, Refusal};
 
 /// An outcome in numbers, and the steps made.
 #[repr(C)]
@@ -31,7 +32,7 @@ fn run_reply(o: Outcome, steps: u64) -> RunReply
         code: r.code,
         label: r.label,
         value: r.value,
-        steps: steps,
+        steps,
     }
 }
 
@@ -40,7 +41,7 @@ fn resting(records: &[[u64; layout::RECORD_WORDS]], task: usize, steps: u64) -> 
     ensures { result ≡ run_reply_of (Moved (Running (get_or (records_of records.now) task unused).call.place)) steps }
 {
     let r = layout::call_at(records, task);
-    run_reply(Outcome::Moved(Answer::Running(r.place)), steps)
+    run_reply(Ok(Answer::Running(r.place)), steps)
 }
 
 /// A run of no steps: what its first step would be refused by, else the task is running at its place.
@@ -59,8 +60,7 @@ fn run_of_none(
         lefts.now rights.now labels.now marks.now next.now)
         task in result ≡ run_reply_of d.outcome d.steps }
 {
-    let words = *control;
-    let c = layout::control_of(words);
+    let c = layout::control_of(*control);
     let r = layout::call_at(records, task);
     let why = asking::refusal(
         c,
@@ -74,7 +74,7 @@ fn run_of_none(
         next,
     );
     if why != 0 {
-        return run_reply(Outcome::Refused(why), 0);
+        return run_reply(Err(Refusal { number: why }), 0);
     }
     resting(records, task, 0)
 }
@@ -110,8 +110,7 @@ pub extern "C" fn zc_run(
     if most == 0 {
         return run_of_none(control, records, task, lefts, rights, labels, marks, next);
     }
-    let mut steps: u64 = 0;
-    while steps < most {
+    for steps in 0..most {
         let o = rows::step(control, records, task, lefts, rights, labels, marks, next);
         if !engine::runs(o) {
             if engine::moves(o) {
@@ -122,7 +121,6 @@ pub extern "C" fn zc_run(
             }
             return resting(records, task, steps);
         }
-        steps += 1;
     }
-    resting(records, task, steps)
+    resting(records, task, most)
 }

@@ -2,7 +2,8 @@
 use Rattle.std.specs.Prelude.{Bool, true, false, ◌&&◌, not, cond, ℕ, ◌/◌, ◌^◌, eqb, ltb}
 use Rattle.word.specs.{Anchor.anchor_of, Link.link_of}
 use Rattle.model.specs.declared.{Control.Control, Call.Call, Entry.Entry, Transition.Transition}
-use Rattle.model.specs.{declared.Outcome.TheVariants.{Refused, Moved}, Sound.{from1, anchor_sound, link_sound}}
+use Rattle.model.specs.Outcomes.{Moved, Refused}
+use Rattle.model.specs.Sound.{from1, anchor_sound, link_sound}
 use Rattle.model.specs.{Route.{onward, goes, answer}, Tables.{with_seen, with_neighbour, with_link, with_words}}
 
 abbrev pub refused : Control → Call → Transition

@@ -13,7 +13,7 @@ ghost use Rattle.std.specs.Prelude.{◌≡◌};
 ghost use Rattle.decide.specs.Decided.{made_of, found3, found5, found7, found9, found11, found13, found14, new2};
 ghost use Rattle.decide.specs.Decided.{found16, new3, new4, new9, new10, new14, new17};
 
-use model::{Call, Control, Entry, Outcome, Transition};
+use model::{Call, Control, Entry, Transition};
 use route::next;
 use word::{Anchor, Link};
 
@@ -22,7 +22,7 @@ pub fn new2(r: Call) -> u64
     ensures { result ≡ new2 r }
 {
     let a = Anchor::unpack(r.seen);
-    let end = side::choose(r.kind == 0, r.own, 0);
+    let end = if r.kind == 0 { r.own } else { 0 };
     side::facing(r.side == 1, step::raised(r.seen), a.status, end, end)
 }
 
@@ -40,12 +40,11 @@ pub fn new4(r: Call) -> u64
 {
     let right = r.side == 1;
     let a = Anchor::unpack(r.seen);
-    let far = side::far(right, a);
-    let tag = step::raised(r.seen);
     let push = r.kind == 0;
-    let status = side::choose(push, side::pushing(right), a.status);
-    let end = side::choose(push, r.own, r.neighbour);
-    side::facing(right, tag, status, end, far)
+    let status = if push { side::pushing(right) } else { a.status };
+    let end = if push { r.own } else { r.neighbour };
+    let far = side::near(!right, a);
+    side::facing(right, step::raised(r.seen), status, end, far)
 }
 
 /// Place 9: the neighbour's outward link, which names the end.
@@ -60,13 +59,13 @@ pub fn new10(r: Call) -> u64
     ensures { result ≡ new10 r }
 {
     let a = Anchor::unpack(r.seen);
-    let stable = Anchor {
-        tag: step::raised(r.seen),
+    let tag = step::raised(r.seen);
+    Anchor {
+        tag,
         status: 0,
-        left: a.left,
-        right: a.right,
-    };
-    stable.pack()
+        ..a
+    }
+    .pack()
 }
 
 /// Place 14: the head, which names the next of the slot drawn.
@@ -87,14 +86,11 @@ pub fn new17(r: Call) -> u64
 pub fn made(m: Transition) -> bool
     ensures { result ≡ made_of m }
 {
-    let o = m.outcome;
-    match o {
-        Outcome::Refused(_) => false,
-        Outcome::Moved(_) => !m.failed,
-    }
+    m.outcome.is_ok() && !m.failed
 }
 
 /// Place 3: a push goes on, with the end put into its own slot's link; a pop takes the slot that w names for neighbour.
+#[tactic(auto, unfolding(crate::specs::Decided::found3))]
 pub fn at3(c: Control, r: Call, w: u64) -> Transition
     ensures { result ≡ found3 c r w }
 {
@@ -109,6 +105,7 @@ pub fn at3(c: Control, r: Call, w: u64) -> Transition
 }
 
 /// Place 5: the slot that w names is the neighbour.
+#[tactic(auto, unfolding(crate::specs::Decided::found5))]
 pub fn at5(c: Control, r: Call, w: u64) -> Transition
     ensures { result ≡ found5 c r w }
 {
@@ -117,6 +114,7 @@ pub fn at5(c: Control, r: Call, w: u64) -> Transition
 }
 
 /// Place 7: w is remembered; it may name the end.
+#[tactic(auto, unfolding(crate::specs::Decided::found7))]
 pub fn at7(c: Control, r: Call, w: u64) -> Transition
     ensures { result ≡ found7 c r w }
 {
@@ -127,6 +125,7 @@ pub fn at7(c: Control, r: Call, w: u64) -> Transition
 }
 
 /// Place 9: the link is as read, and is changed; or it is another.
+#[tactic(auto, unfolding(crate::specs::Decided::found9))]
 pub fn at9(c: Control, r: Call, w: u64) -> Transition
     ensures { result ≡ found9 c r w }
 {
@@ -145,15 +144,18 @@ pub fn at9(c: Control, r: Call, w: u64) -> Transition
 
 /// Place 11: the label of the end taken is the answer's; in a pooled queue slot and label are kept in the record, and
 /// the slot is given back first.
+#[tactic(auto, unfolding(crate::specs::Decided::found11))]
 pub fn at11(c: Control, r: Call, label: u32) -> Transition
     ensures { result ≡ found11 c r label }
 {
     let end = touched::own_end(r);
     if touched::is_slot(c.slots, end) {
         if c.pooled == 1 {
-            let mut t = r;
-            t.own = end;
-            t.label = label;
+            let t = Call {
+                own: end,
+                label,
+                ..r
+            };
             return step::settles(c, t, next::next(11, r.kind, next::POOLED), step::NO_ENTRY);
         }
         let e = Entry { slot: end, label };
@@ -163,18 +165,19 @@ pub fn at11(c: Control, r: Call, label: u32) -> Transition
 }
 
 /// Place 13: the next of the head's slot is remembered.
+#[tactic(auto, unfolding(crate::specs::Decided::found13))]
 pub fn at13(c: Control, r: Call, w: u64) -> Transition
     ensures { result ≡ found13 c r w }
 {
     if w <= c.slots {
-        let mut t = r;
-        t.neighbour = w;
+        let t = Call { neighbour: w, ..r };
         return step::settles(c, t, next::next(13, r.kind, next::ONLY_WAY), step::NO_ENTRY);
     }
     step::refused(c, r)
 }
 
 /// Place 14: the head is as read, and is changed, and its slot is the push's own; or it is another.
+#[tactic(auto, unfolding(crate::specs::Decided::found14))]
 pub fn at14(c: Control, r: Call) -> Transition
     ensures { result ≡ found14 c r }
 {
@@ -184,15 +187,17 @@ pub fn at14(c: Control, r: Call) -> Transition
     }
     if step::has_room(r.link) {
         let d = step::with_head(c, new14(r));
-        let top = touched::top(r);
-        let mut t = r;
-        t.own = top;
+        let t = Call {
+            own: touched::top(r),
+            ..r
+        };
         return step::settles(d, t, next::next(14, r.kind, next::DONE), step::NO_ENTRY);
     }
     step::refused(c, r)
 }
 
 /// Place 16: the own slot's next is written.
+#[tactic(auto, unfolding(crate::specs::Decided::found16))]
 pub fn at16(c: Control, r: Call) -> Transition
     ensures { result ≡ found16 c r }
 {

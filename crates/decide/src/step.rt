@@ -1,17 +1,19 @@
 //! How a step ends: refused, made, or a change of Anchor tried.
-ghost use mathlib.Core.{Path.◌≡◌, Bool.{false, cond}};
+ghost use mathlib.Core.{Path.◌≡◌, Bool.false};
 ghost use Rattle.std.specs.Prelude.{◌+◌, ◌/◌, ◌^◌};
 ghost use Rattle.word.specs.Link.{pack_link};
 ghost use Rattle.model.specs.{Tables.{idle, with_seen}, Route.goes};
+ghost use Rattle.model.specs.Outcomes.{Moved};
 ghost use Rattle.decide.specs.Ending.{refused, settled, failing, tag_has_room, may_change, change_refused, anchored};
 ghost use Rattle.decide.specs.Ending.{headed, remembered, compared, row_sound, neighbour_read, link_read, head_read};
 
 use crate::touched;
-use model::{Answer, Call, Control, Entry, Outcome, Transition};
+use model::{Answer, Call, Control, Entry, Refusal, Transition};
 use route::next;
 use word::{Anchor, Link};
 
 /// For a step that pops nothing.
+// An entry and no `None`: `settled` and `no_entry`, which the clauses of this crate name, give every step one.
 pub const NO_ENTRY: Entry = Entry { slot: 0, label: 0 };
 
 /// 34: nothing is changed.
@@ -21,32 +23,31 @@ pub fn refused(c: Control, r: Call) -> Transition
     Transition {
         control: c,
         task: r,
-        outcome: Outcome::Refused(34),
+        outcome: Err(Refusal { number: 34 }),
         failed: false,
     }
 }
 
 /// The call goes on at place n.
+#[tactic(auto, unfolding(model::specs::Route::goes))]
 fn goes(c: Control, t: Call, n: u8) -> Transition
-    ensures { result ≡ record { control = c; task = goes t n; outcome = Outcome.Moved (Answer.Running n); failed = false } }
+    ensures { result ≡ record { control = c; task = goes t n; outcome = Moved (Answer.Running n); failed = false } }
 {
-    let place = n as u64;
+    let place = u64::from(n);
     if n > 17 {
         return ends(c, Answer::Running(place));
     }
-    let mut gone = t;
-    gone.place = place;
     Transition {
         control: c,
-        task: gone,
-        outcome: Outcome::Moved(Answer::Running(place)),
+        task: Call { place, ..t },
+        outcome: Ok(Answer::Running(place)),
         failed: false,
     }
 }
 
 /// The call is answered, and its record all zero.
 fn ends(c: Control, a: Answer) -> Transition
-    ensures { result ≡ record { control = c; task = idle; outcome = Outcome.Moved a; failed = false } }
+    ensures { result ≡ record { control = c; task = idle; outcome = Moved a; failed = false } }
 {
     Transition {
         control: c,
@@ -61,31 +62,24 @@ fn ends(c: Control, a: Answer) -> Transition
             link: 0,
             finishing: 0,
         },
-        outcome: Outcome::Moved(a),
+        outcome: Ok(a),
         failed: false,
     }
 }
 
 /// A step made: its record goes where the route leads, n; e is the entry popped.
+#[tactic(auto, unfolding(crate::specs::Ending::settled, model::specs::Route::onward, model::specs::Route::answer, model::specs::Route::goes))]
 pub fn settles(c: Control, t: Call, n: u8, e: Entry) -> Transition
     ensures { result ≡ settled c t n e }
 {
-    if n == next::LEAVE {
-        if t.finishing == 1 {
-            ends(c, Answer::Pushed)
-        } else {
-            goes(c, t, 1)
-        }
-    } else if n == next::PUSHED {
-        ends(c, Answer::Pushed)
-    } else if n == next::EMPTY {
-        ends(c, Answer::Empty)
-    } else if n == next::POPPED {
-        ends(c, Answer::Popped(e))
-    } else if n == next::NO_FREE_SLOT {
-        ends(c, Answer::NoFreeSlot)
-    } else {
-        goes(c, t, n)
+    match n {
+        next::LEAVE if t.finishing == 1 => ends(c, Answer::Pushed),
+        next::LEAVE => goes(c, t, 1),
+        next::PUSHED => ends(c, Answer::Pushed),
+        next::EMPTY => ends(c, Answer::Empty),
+        next::POPPED => ends(c, Answer::Popped(e)),
+        next::NO_FREE_SLOT => ends(c, Answer::NoFreeSlot),
+        _ => goes(c, t, n),
     }
 }
 
@@ -93,18 +87,14 @@ pub fn settles(c: Control, t: Call, n: u8, e: Entry) -> Transition
 pub fn sees(r: Call, w: u64) -> Call
     ensures { result ≡ with_seen r w r.finishing }
 {
-    let mut t = r;
-    t.seen = w;
-    t
+    Call { seen: w, ..r }
 }
 
 /// A step whose change failed.
 pub fn fails(m: Transition) -> Transition
     ensures { result ≡ failing m }
 {
-    let mut d = m;
-    d.failed = true;
-    d
+    Transition { failed: true, ..m }
 }
 
 /// The tag of a word, raised by 1.
@@ -124,6 +114,7 @@ pub fn has_room(w: u64) -> bool
 }
 
 /// Whether Anchor may be changed from `seen` to `new`: the tag can be raised, and `new` is sound.
+#[tactic(auto, unfolding(crate::specs::Ending::may_change))]
 pub fn may_change(slots: u64, seen: u64, new: u64) -> bool
     ensures { result ≡ may_change slots seen new }
 {
@@ -131,6 +122,7 @@ pub fn may_change(slots: u64, seen: u64, new: u64) -> bool
 }
 
 /// Whether a change of Anchor to `new` is refused: Anchor is as read, so that the change would be made, and may not be.
+#[tactic(auto, unfolding(crate::specs::Ending::change_refused))]
 pub fn change_refused(c: Control, r: Call, new: u64) -> bool
     ensures { result ≡ change_refused c r new }
 {
@@ -141,33 +133,34 @@ pub fn change_refused(c: Control, r: Call, new: u64) -> bool
 pub fn with_anchor(c: Control, new: u64) -> Control
     ensures { result ≡ anchored c new }
 {
-    let mut d = c;
-    d.anchor = new;
-    d
+    Control { anchor: new, ..c }
 }
 
 /// The control with another head.
 pub fn with_head(c: Control, new: u64) -> Control
     ensures { result ≡ headed c new }
 {
-    let mut d = c;
-    d.head = new;
-    d
+    Control { head: new, ..c }
 }
 
 /// The record once Anchor is changed at place 4: a push remembers the new word, and is finishing.
+#[tactic(auto, unfolding(crate::specs::Ending::remembered))]
 pub fn remembers(r: Call, new: u64) -> Call
     ensures { result ≡ remembered r new }
 {
-    let mut t = r;
     if r.kind == 0 {
-        t.seen = new;
-        t.finishing = 1;
+        Call {
+            seen: new,
+            finishing: 1,
+            ..r
+        }
+    } else {
+        r
     }
-    t
 }
 
 /// Compares Anchor with the word as read.
+#[tactic(auto, unfolding(crate::specs::Ending::compared))]
 pub fn compares(c: Control, r: Call, same: u8, other: u8) -> Transition
     ensures { result ≡ compared c r same other }
 {
@@ -179,6 +172,7 @@ pub fn compares(c: Control, r: Call, same: u8, other: u8) -> Transition
 }
 
 /// Whether x is a slot and the link word met there is sound.
+#[tactic(auto, unfolding(crate::specs::Ending::row_sound))]
 pub fn row_sound(slots: u64, x: u64, w: u64) -> bool
     ensures { result ≡ row_sound slots x w }
 {
@@ -188,31 +182,33 @@ pub fn row_sound(slots: u64, x: u64, w: u64) -> bool
 pub fn link_word(tag: u64, slot: u64) -> u64
     ensures { result ≡ pack_link (record { tag = tag; slot = slot }) }
 {
-    let link = Link { tag, slot };
-    link.pack()
+    Link { tag, slot }.pack()
 }
 
 /// Takes the slot that w, slot x's inward link, names for the neighbour.
+#[tactic(auto, unfolding(crate::specs::Ending::neighbour_read))]
 pub fn reads_neighbour(c: Control, r: Call, x: u64, w: u64, n: u8) -> Transition
     ensures { result ≡ neighbour_read c r x w n }
 {
     if row_sound(c.slots, x, w) {
         let link = Link::unpack(w);
-        let mut t = r;
-        t.neighbour = link.slot;
+        let t = Call {
+            neighbour: link.slot,
+            ..r
+        };
         return settles(c, t, n, NO_ENTRY);
     }
     refused(c, r)
 }
 
 /// Remembers w, the neighbour's outward link, which may name the end.
+#[tactic(auto, unfolding(crate::specs::Ending::link_read))]
 pub fn reads_link(c: Control, r: Call, end: u64, w: u64, same: u8, other: u8) -> Transition
     ensures { result ≡ link_read c r end w same other }
 {
     if row_sound(c.slots, r.neighbour, w) {
         let link = Link::unpack(w);
-        let mut t = r;
-        t.link = w;
+        let t = Call { link: w, ..r };
         if link.slot == end {
             return settles(c, t, same, NO_ENTRY);
         }
@@ -221,22 +217,16 @@ pub fn reads_link(c: Control, r: Call, end: u64, w: u64, same: u8, other: u8) ->
     refused(c, r)
 }
 
-/// x if b holds, else y.
-fn either(b: bool, x: u8, y: u8) -> u8
-    ensures { result ≡ cond b x y }
-{
-    if b { x } else { y }
-}
-
 /// Remembers the head, whose slot may be 0.
+#[tactic(auto, unfolding(crate::specs::Ending::head_read))]
 pub fn reads_head(c: Control, r: Call, none: u8, other: u8) -> Transition
     ensures { result ≡ head_read c r none other }
 {
     if sound::link_sound(c.slots, c.head) {
         let head = Link::unpack(c.head);
-        let mut t = r;
-        t.link = c.head;
-        return settles(c, t, either(head.slot == 0, none, other), NO_ENTRY);
+        let t = Call { link: c.head, ..r };
+        let n = if head.slot == 0 { none } else { other };
+        return settles(c, t, n, NO_ENTRY);
     }
     refused(c, r)
 }

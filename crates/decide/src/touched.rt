@@ -51,15 +51,14 @@ pub fn link3_of(r: Call, a: Anchor) -> LinkWord
     ensures { result ≡ link3_of r a }
 {
     let right = r.side == 1;
-    if r.kind == 0 {
-        return LinkWord {
-            right: !right,
-            slot: r.own,
-        };
-    }
+    let slot = if r.kind == 0 {
+        r.own
+    } else {
+        side::near(right, a)
+    };
     LinkWord {
         right: !right,
-        slot: side::near(right, a),
+        slot,
     }
 }
 

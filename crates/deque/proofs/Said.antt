@@ -4,7 +4,8 @@ use Prim.Native.Nat.{ℕ, ◌<◌, ◌≤◌}
 use native.Mathlib.Omega.{arith}
 use lib.{ListN.{length, set}, Seq.set-get_or}
 use borrow.Author.Tests.{leb-true, ltb-true}
-use Rattle.model.specs.declared.{Control.Control, Record.Record, Outcome.{Outcome, TheVariants.Refused}}
+use Rattle.model.specs.Outcomes.{Refused}
+use Rattle.model.specs.declared.{Control.Control, Record.Record}
 use Rattle.model.specs.{declared.Op.TheVariants.Step, Tables.{Tables, Queue, tables_of, task_at, unused, is_pooled}, Sound.rows_fit}
 use Rattle.model.specs.{Refusals.{among, admission}, Calls.{Acted, Done, back, act, act_on}}
 use Rattle.sound.specs.{declared.Lengths.Lengths, Lengths.{lengths_of, lengths_fit, among_many}}
@@ -26,6 +27,10 @@ module _ (c : Control) (rs : List Record) (task : ℕ) (lefts rights labels mark
 
   abbrev pub fault : ℕ
   fault = admission c (lengths_fit (is_pooled c) c.slots sizes) (among_many c sizes task)
+
+  -- The number found is that of the tables as they measure.
+  pub found : (why : ℕ) (l : Lengths) → l ≡ sizes → why ≡ admission c (lengths_fit (is_pooled c) c.slots l) (among_many c l task) → why ≡ fault
+  found why l el e = e ∙ ap (λ (l : Lengths). admission c (lengths_fit (is_pooled c) c.slots l) (among_many c l task)) el
 
   pub refused : (why : ℕ) → why ≡ fault → (why ≡ 0 → ⊥) → ◌≡◌ {A = Done} (record { queue = queue; outcome = Refused why }) (act queue task Step)
   unfolding act act_on rows_fit lengths_fit

@@ -29,14 +29,7 @@ fn step_alone(
         })
         (step_lent (tables_of c lefts.old rights.old labels.old marks.old next.old) t) }
 {
-    let lent = Lengths {
-        records: 1,
-        lefts: lefts.len(),
-        rights: rights.len(),
-        labels: labels.len(),
-        marks: marks.len(),
-        next: next.len(),
-    };
+    let lent = Lengths::of(1, lefts, rights, labels, marks, next);
     let why = admission::admit_alone(c, lent);
     if why != 0 {
         let outcome = engine::refuse(why);
@@ -71,14 +64,7 @@ pub fn step(
         task Step) }
 {
     let c = *control;
-    let lent = Lengths {
-        records: records.len(),
-        lefts: lefts.len(),
-        rights: rights.len(),
-        labels: labels.len(),
-        marks: marks.len(),
-        next: next.len(),
-    };
+    let lent = Lengths::of(records.len(), lefts, rights, labels, marks, next);
     let why = admission::admit_step(c, task, lent);
     if why != 0 {
         return engine::refuse(why);

@@ -4,7 +4,8 @@ use Prim.Native.Nat.{ℕ, suc, ◌≤◌}
 use native.Mathlib.Omega.{arith}
 use lib.Dec.{eqb}
 use borrow.Author.Tests.{leb-true, eqb-false, ne_eqb}
-use Rattle.model.specs.{declared.{Record.Record, Outcome.TheVariants.Refused}, Tables.{Tables, is_pooled}}
+use Rattle.model.specs.Outcomes.{Refused}
+use Rattle.model.specs.{declared.Record.Record, Tables.{Tables, is_pooled}}
 use Rattle.model.specs.{Sound.{control_sound, record_sound, rows_fit}, Places.{word_found, move}}
 use Rattle.model.specs.{Refusals.{Lent, step_sound, step_refusal, admission, record_refusal}, Calls.{decide, finish, step}}
 use Rattle.model.proofs.Tests.Truth.{split}

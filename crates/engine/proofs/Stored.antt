@@ -1,18 +1,19 @@
 -- What is stored after a step is what the step leaves, since it changes nothing else (`Unchanged`).
+use Rattle.std.specs.Prelude.{Err, Ok}
 use mathlib.Core.{Path.{◌≡◌, refl, sym, ap, ap₂, subst, ◌∙◌}, Bool.{true, false}, List.List}
 use Prim.Native.Nat.{ℕ, ◌≤◌}
-use Rattle.model.specs.declared.{Control.Control, Call.Call, Record.Record, Outcome.Outcome, Transition.Transition}
+use Rattle.model.specs.Outcomes.{Outcome}
+use Rattle.model.specs.declared.{Control.Control, Call.Call, Record.Record, Transition.Transition}
 use Rattle.model.specs.{Tables.{Tables, tables_of, counting, idle, of_kind, with_call, with_own, with_words}, Route.counted}
 use Rattle.model.{specs.{Calls.Acted, Ends.{ends_call, is_moved}}, proofs.Tests.Truth.{split, not_both}}
-use Rattle.model.specs.declared.Outcome.TheVariants as outcome
 use Rattle.engine.specs.{StepAdmitted.step_admitted, Stored.own_after}
 use Rattle.engine.specs.Stored.{anchor_moved, call_moved, head_moved, own_moved, anchor_after, call_after, head_after}
 use Rattle.engine.proofs.{ByPlace.Keeps, Unchanged.{Unchanged, admitted_unchanged}}
 
 -- A refused step ends no call.
 pub refused-goes : (o : Outcome) → is_moved o ≡ false → ends_call o ≡ false
-refused-goes (outcome.Refused n) h = refl
-refused-goes (outcome.Moved a) h = absurd (not_both (sym h) refl)
+refused-goes (Err n) h = refl
+refused-goes (Ok a) h = absurd (not_both (sym h) refl)
 
 -- By the outcome: what is stored.
 module _ (c : Control) (r : Record) (m : Transition) where

@@ -5,7 +5,8 @@ use Prim.Native.Nat.{ℕ, zero, suc, ◌≤◌}
 use native.Mathlib.Omega.{arith}
 use lib.{Dec.{eqb, leb}, ListN.get_or}
 use borrow.Author.Tests.{leb-true, eqb-true, eqb-false, ne_eqb}
-use Rattle.model.specs.declared.{Call.Call, Record.Record, Entry.Entry, Outcome.TheVariants.{Refused, Moved}}
+use Rattle.model.specs.Outcomes.{Moved, Refused}
+use Rattle.model.specs.declared.{Call.Call, Record.Record, Entry.Entry}
 use Rattle.model.specs.{Tables.{Tables, idle}, Places.word_found, Refusals.step_sound, Calls.{Acted, finish}}
 use Rattle.model.specs.Places.{Touch, nothing, set_anchor, set_link, clear_mark, take_slot, set_next, set_head, Move, apply}
 use Rattle.model.specs.{Route.{push_route, pop_route, route, onward, answer, goes}, Ends.{ends_call, is_moved}}

@@ -1,6 +1,7 @@
 -- The second part of a step: what an admitted record does.
 use Rattle.std.specs.Prelude.{cond, eqb}
-use Rattle.model.specs.{declared.{Record.Record, Outcome.TheVariants.Refused}, Tables.{Tables, is_pooled}, Calls.Acted}
+use Rattle.model.specs.Outcomes.{Refused}
+use Rattle.model.specs.{declared.Record.Record, Tables.{Tables, is_pooled}, Calls.Acted}
 use Rattle.model.specs.Refusals.{record_refusal}
 use Rattle.places.specs.Arm.{step_at}
 

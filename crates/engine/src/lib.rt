@@ -2,102 +2,51 @@
 #![tactic(auto)]
 
 ghost use Rattle.std.specs.Prelude.{◌≡◌};
-ghost use Rattle.model.specs.{Calls.reply_of, Ends.{answer_ends, ends_call, is_moved, is_running}};
+ghost use Rattle.model.specs.{Outcomes.Refused, Calls.reply_of, Ends.{ends_call, is_moved, is_running}};
 
-use model::{Answer, Outcome, Reply};
-
-fn answer_ends(a: Answer) -> bool
-    ensures { result ≡ answer_ends a }
-{
-    match a {
-        Answer::Running(_) => false,
-        Answer::Pushed => true,
-        Answer::Empty => true,
-        Answer::Popped(_) => true,
-        Answer::NoFreeSlot => true,
-    }
-}
+use model::{Answer, Outcome, Refusal, Reply};
 
 /// Whether a step with this outcome ended its call: the record is then all zero. After any other
 /// outcome it keeps its kind and side, and in a named queue its own slot and label.
 pub fn ends(o: Outcome) -> bool
     ensures { result ≡ ends_call o }
 {
-    match o {
-        Outcome::Refused(_) => false,
-        Outcome::Moved(a) => answer_ends(a),
-    }
+    !matches!(o, Err(_) | Ok(Answer::Running(_)))
 }
 
 /// Whether a step with this outcome was carried out.
 pub fn moves(o: Outcome) -> bool
     ensures { result ≡ is_moved o }
 {
-    match o {
-        Outcome::Refused(_) => false,
-        Outcome::Moved(_) => true,
-    }
+    o.is_ok()
 }
 
 /// Whether a step with this outcome was carried out and its call goes on.
 pub fn runs(o: Outcome) -> bool
     ensures { result ≡ is_running o }
 {
-    match o {
-        Outcome::Refused(_) => false,
-        Outcome::Moved(a) => !answer_ends(a),
-    }
+    matches!(o, Ok(Answer::Running(_)))
 }
 
 /// The outcome of a refusal.
 pub fn refuse(why: u32) -> Outcome
-    ensures { result ≡ Outcome.Refused why }
+    ensures { result ≡ Refused why }
 {
-    Outcome::Refused(why)
-}
-
-fn answer_reply(a: Answer) -> Reply
-    ensures { result ≡ reply_of (Outcome.Moved a) }
-{
-    match a {
-        Answer::Running(place) => Reply {
-            code: 1,
-            label: 0,
-            value: place,
-        },
-        Answer::Pushed => Reply {
-            code: 2,
-            label: 0,
-            value: 0,
-        },
-        Answer::Empty => Reply {
-            code: 3,
-            label: 0,
-            value: 0,
-        },
-        Answer::Popped(entry) => Reply {
-            code: 4,
-            label: entry.label,
-            value: entry.slot,
-        },
-        Answer::NoFreeSlot => Reply {
-            code: 5,
-            label: 0,
-            value: 0,
-        },
-    }
+    Err(Refusal { number: why })
 }
 
 /// An outcome in numbers.
+// A function and no `From`: that would have to stand in `model`, whose types it turns, and which has no functions.
 pub fn reply(o: Outcome) -> Reply
     ensures { result ≡ reply_of o }
 {
-    match o {
-        Outcome::Refused(number) => Reply {
-            code: number,
-            label: 0,
-            value: 0,
-        },
-        Outcome::Moved(answer) => answer_reply(answer),
-    }
+    let (code, label, value) = match o {
+        Err(refusal) => (refusal.number, 0, 0),
+        Ok(Answer::Running(place)) => (1, 0, place),
+        Ok(Answer::Pushed) => (2, 0, 0),
+        Ok(Answer::Empty) => (3, 0, 0),
+        Ok(Answer::Popped(entry)) => (4, entry.label, entry.slot),
+        Ok(Answer::NoFreeSlot) => (5, 0, 0),
+    };
+    Reply { code, label, value }
 }

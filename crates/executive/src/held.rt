@@ -1,14 +1,15 @@
-//! A queue that is held by value, and lent for each start and step.
+//! A queue that is held by value, and lent for each start and step: for a step in one of the two loans of document 01, the records as a
+//! slice, or one record.
 ghost use Rattle.std.specs.Prelude.{◌≡◌};
-ghost use Rattle.model.specs.{declared.Op.TheVariants.Step, Tables.unused, Calls.act, LentSteps.{take_turn, lent}};
-ghost use Rattle.std.specs.Prelude.{get_or, set};
+ghost use Rattle.model.specs.{declared.Op.TheVariants.Step, Calls.act, LentSteps.{take_turn, lent}};
 ghost use Rattle.layout.specs.Rows.{record_of, records_of};
 ghost use Rattle.executive.specs.Held.{queue_in, done_of};
 
-use crate::lent;
-use crate::lent::TASKS;
 use model::{Control, Op, Outcome, Record};
 use rows::op;
+
+/// The tasks of the executive.
+pub const TASKS: usize = 2;
 
 /// Control, records and tables of a queue of 3 slots.
 #[derive(Clone, Copy)]
@@ -22,169 +23,84 @@ pub struct Held {
     pub next: [u64; 4],
 }
 
-/// A queue after a start or step, and its outcome.
-#[derive(Clone, Copy)]
-pub struct Done {
-    pub held: Held,
-    pub outcome: Outcome,
-}
-
-fn row_of(t: Record) -> [u64; layout::RECORD_WORDS]
-    ensures { record_of result ≡ t }
+fn row_of(task: Record) -> [u64; layout::RECORD_WORDS]
+    ensures { record_of result ≡ task }
 {
-    let call = t.call;
-    layout::record_row(call, t.retries)
+    layout::record_row(task.call, task.retries)
 }
 
 fn record_of(row: [u64; layout::RECORD_WORDS]) -> Record
     ensures { result ≡ record_of row }
 {
-    let call = layout::call_of(row);
-    let retries = layout::retries_of(row);
-    Record { call, retries }
+    Record {
+        call: layout::call_of(row),
+        retries: layout::retries_of(row),
+    }
 }
 
 fn rows_of(records: [Record; TASKS]) -> [[u64; layout::RECORD_WORDS]; TASKS]
     ensures { records_of result ≡ records }
 {
-    let first = records[0];
-    let second = records[1];
-    let a = row_of(first);
-    let b = row_of(second);
-    [a, b]
+    records.map(row_of)
 }
 
 fn records_of(rows: [[u64; layout::RECORD_WORDS]; TASKS]) -> [Record; TASKS]
     ensures { result ≡ records_of rows }
 {
-    let first = rows[0];
-    let second = rows[1];
-    let a = record_of(first);
-    let b = record_of(second);
-    [a, b]
+    rows.map(record_of)
 }
 
-/// A start. Its function has the records as rows of words.
-pub fn start(h: Held, task: usize, op: Op) -> Done
-    ensures { done_of result ≡ act (queue_in h) task op }
-{
-    let c = h.control;
-    let rs = h.records;
-    let mut words = layout::control_row(c);
-    let mut rows = rows_of(rs);
-    let mut lefts = h.lefts;
-    let mut rights = h.rights;
-    let mut labels = h.labels;
-    let mut marks = h.marks;
-    let mut next = h.next;
-    let outcome = op::operate(
-        &mut words,
-        &mut rows,
-        task,
-        op,
-        &mut lefts,
-        &mut rights,
-        &mut labels,
-        &mut marks,
-        &mut next,
-    );
-    let control = layout::control_of(words);
-    let records = records_of(rows);
-    let held = Held {
-        control,
-        records,
-        lefts,
-        rights,
-        labels,
-        marks,
-        next,
-    };
-    Done { held, outcome }
-}
+impl Held {
+    /// A start. Its function has the records as rows of words.
+    pub fn start(&mut self, task: usize, op: Op) -> Outcome
+        ensures { done_of self.new result ≡ act (queue_in self.old) task op }
+    {
+        let mut words = layout::control_row(self.control);
+        let mut rows = rows_of(self.records);
+        let outcome = op::operate(
+            &mut words,
+            &mut rows,
+            task,
+            op,
+            &mut self.lefts,
+            &mut self.rights,
+            &mut self.labels,
+            &mut self.marks,
+            &mut self.next,
+        );
+        self.control = layout::control_of(words);
+        self.records = records_of(rows);
+        outcome
+    }
 
-/// A step of a task, the records lent side by side.
-pub fn step(h: Held, task: usize) -> Done
-    ensures { done_of result ≡ act (queue_in h) task Step }
-{
-    let c = h.control;
-    let rs = h.records;
-    let mut lefts = h.lefts;
-    let mut rights = h.rights;
-    let mut labels = h.labels;
-    let mut marks = h.marks;
-    let mut next = h.next;
-    let m = lent::step(
-        c,
-        rs,
-        task,
-        &mut lefts,
-        &mut rights,
-        &mut labels,
-        &mut marks,
-        &mut next,
-    );
-    let control = m.control;
-    let records = m.records;
-    let outcome = m.outcome;
-    let held = Held {
-        control,
-        records,
-        lefts,
-        rights,
-        labels,
-        marks,
-        next,
-    };
-    Done { held, outcome }
-}
+    /// A step of a task, the records lent side by side.
+    pub fn step(&mut self, task: usize) -> Outcome
+        ensures { done_of self.new result ≡ act (queue_in self.old) task Step }
+    {
+        deque::step(
+            &mut self.control,
+            &mut self.records,
+            task,
+            &mut self.lefts,
+            &mut self.rights,
+            &mut self.labels,
+            &mut self.marks,
+            &mut self.next,
+        )
+    }
 
-fn second(records: [Record; TASKS]) -> Record
-    ensures { result ≡ get_or records 1 unused }
-{
-    records[1]
-}
-
-fn with_second(records: [Record; TASKS], t: Record) -> [Record; TASKS]
-    ensures { result ≡ set records 1 t }
-{
-    let mut rs = records;
-    rs[1] = t;
-    rs
-}
-
-/// A step of task 1, its record lent alone.
-pub fn step_alone(h: Held) -> Done
-    ensures { done_of result ≡ take_turn (queue_in h) (lent 1) }
-{
-    let c = h.control;
-    let rs = h.records;
-    let t = second(rs);
-    let mut lefts = h.lefts;
-    let mut rights = h.rights;
-    let mut labels = h.labels;
-    let mut marks = h.marks;
-    let mut next = h.next;
-    let s = lent::step_record(
-        c,
-        t,
-        &mut lefts,
-        &mut rights,
-        &mut labels,
-        &mut marks,
-        &mut next,
-    );
-    let control = s.control;
-    let r = s.task;
-    let outcome = s.outcome;
-    let records = with_second(rs, r);
-    let held = Held {
-        control,
-        records,
-        lefts,
-        rights,
-        labels,
-        marks,
-        next,
-    };
-    Done { held, outcome }
+    /// A step of task 1, its record lent alone.
+    pub fn step_alone(&mut self) -> Outcome
+        ensures { done_of self.new result ≡ take_turn (queue_in self.old) (lent 1) }
+    {
+        deque::step_record(
+            &mut self.control,
+            &mut self.records[1],
+            &mut self.lefts,
+            &mut self.rights,
+            &mut self.labels,
+            &mut self.marks,
+            &mut self.next,
+        )
+    }
 }

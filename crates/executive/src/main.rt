@@ -3,11 +3,10 @@
 #![tactic(auto)]
 
 mod held;
-mod lent;
 mod print;
 
 use calls::opening;
-use held::Held;
+use held::{Held, TASKS};
 use lines::Line;
 use model::{Control, Op, Record};
 use std::io::Write;
@@ -26,10 +25,10 @@ fn open<W: Write, E: Write>(writer: &mut W, errors: &mut E) -> Held {
         pooled: 0,
         head: 0,
     };
-    let o = opening::open_tables(
+    let parts = opening::open_tables(
         unopened,
         false,
-        lent::TASKS,
+        TASKS,
         2,
         3,
         0,
@@ -39,15 +38,13 @@ fn open<W: Write, E: Write>(writer: &mut W, errors: &mut E) -> Held {
         &mut marks,
         &mut next,
     );
-    let control = o.control;
-    let outcome = o.outcome;
-    print::line(writer, errors, 1, Line::Open(outcome), control.anchor);
+    let control = parts.control;
+    print::line(writer, errors, 1, Line::Open(parts.outcome), control.anchor);
     let call = calls::start::new_call(0, 0, 0, 0, 0);
     let idle = Record { call, retries: 0 };
-    let records = [idle; lent::TASKS];
     Held {
         control,
-        records,
+        records: [idle; TASKS],
         lefts,
         rights,
         labels,
@@ -56,81 +53,46 @@ fn open<W: Write, E: Write>(writer: &mut W, errors: &mut E) -> Held {
     }
 }
 
-/// A start, with its line.
-fn start<W: Write, E: Write>(
+/// A start or step of a task, with its line.
+fn act<W: Write, E: Write>(
     writer: &mut W,
     errors: &mut E,
-    h: Held,
+    held: &mut Held,
     event: u64,
     task: usize,
     op: Op,
-) -> Held {
-    let done = held::start(h, task, op);
-    let outcome = done.outcome;
-    let after = done.held;
-    let control = after.control;
-    print::line(
-        writer,
-        errors,
-        event,
-        Line::Act { task, op, outcome },
-        control.anchor,
-    );
-    after
-}
-
-/// A step of task 0, with its line.
-fn step<W: Write, E: Write>(writer: &mut W, errors: &mut E, h: Held, event: u64) -> Held {
-    let task = 0;
-    let done = held::step(h, task);
-    let outcome = done.outcome;
-    let after = done.held;
-    let control = after.control;
-    let op = Op::Step;
-    print::line(
-        writer,
-        errors,
-        event,
-        Line::Act { task, op, outcome },
-        control.anchor,
-    );
-    after
-}
-
-/// A step of task 1, with its line.
-fn step_alone<W: Write, E: Write>(writer: &mut W, errors: &mut E, h: Held, event: u64) -> Held {
-    let task = 1;
-    let done = held::step_alone(h);
-    let outcome = done.outcome;
-    let after = done.held;
-    let control = after.control;
-    let op = Op::Step;
-    print::line(
-        writer,
-        errors,
-        event,
-        Line::Act { task, op, outcome },
-        control.anchor,
-    );
-    after
+) {
+    let outcome = match (task, op) {
+        (0, Op::Step) => held.step(task),
+        (_, Op::Step) => held.step_alone(),
+        _ => held.start(task, op),
+    };
+    let line = Line::Act { task, op, outcome };
+    print::line(writer, errors, event, line, held.control.anchor);
 }
 
 fn main(rt: HostRuntime) {
     let writer = &mut rt.stdout();
     let errors = &mut rt.stderr();
     print::header(writer, errors);
-    let opened = open(writer, errors);
+    let mut held = open(writer, errors);
     let push = Op::Push {
         side: 1,
         slot: 1,
         label: 700,
     };
-    let a = start(writer, errors, opened, 2, 0, push);
-    let b = step(writer, errors, a, 3);
-    let c = step(writer, errors, b, 4);
     let pop = Op::Pop { side: 0 };
-    let d = start(writer, errors, c, 5, 1, pop);
-    let e = step_alone(writer, errors, d, 6);
-    let f = step_alone(writer, errors, e, 7);
-    step_alone(writer, errors, f, 8);
+    let acts = [
+        (0, push),
+        (0, Op::Step),
+        (0, Op::Step),
+        (1, pop),
+        (1, Op::Step),
+        (1, Op::Step),
+        (1, Op::Step),
+    ];
+    // The opening was event 1.
+    for (event, (task, op)) in (2u64..).zip(acts) {
+        act(writer, errors, &mut held, event, task, op);
+    }
 }

@@ -4,35 +4,9 @@ use mathlib.Core.Logic.{◌≢◌}
 use Prim.Native.Nat.{ℕ, zero, suc, ◌+◌, ◌<◌, ◌≤◌}
 use native.Mathlib.Omega.{arith}
 use lib.{Dec.eqb, ListN.{length, get_or, set, take}}
-use borrow.Author.Tests.{eq-eqb, ne_eqb}
-use Rattle.model.{specs.declared.Entry.Entry, proofs.Tests.Truth.not_both}
+use borrow.Author.Tests.{ne_eqb}
+use Rattle.model.{specs.declared.Entry.Entry}
 use Rattle.find_model.{specs.Noting.{note, pick}, proofs.Positions.notes}
-
-pub set_own : (l : List ℕ) (i : ℕ) → set l i (get_or l i 0) ≡ l
-set_own [] i = refl
-set_own (x ∷ l) zero = refl
-set_own (x ∷ l) (suc i) = ap (λ (m : List ℕ). x ∷ m) (set_own l i)
-
-module _ (foremost : Bool) (x y k p : ℕ) where
-  pub pick_other : (y ≡ x → ⊥) → p ≡ pick foremost x y k p
-  pick_other h = rw (ne_eqb y x h)
-
-  pub pick-kept : foremost && not (eqb p 0) ≡ true → p ≡ pick foremost x y k p
-  pick-kept h = go foremost (eqb y x) (eqb p 0) h
-    where
-      go : (a b c : Bool) → a && not c ≡ true → p ≡ cond (b && (not a || c)) k p
-      go true true false e = refl
-      go true false c e = refl
-      go true true true e = absurd (not_both e refl)
-      go false b c e = absurd (not_both e refl)
-
-  pub pick_put : y ≡ x → foremost && not (eqb p 0) ≡ false → k ≡ pick foremost x y k p
-  pick_put e h = rw (eq-eqb y x e) (go foremost (eqb p 0) h)
-    where
-      go : (a c : Bool) → a && not c ≡ false → k ≡ cond (not a || c) k p
-      go true true f = refl
-      go true false f = absurd (not_both refl f)
-      go false c f = refl
 
 module _ (foremost : Bool) (y k : ℕ) where
   pub note-more : (i : ℕ) (wanted ps : List ℕ) → i < length wanted → i < length ps
@@ -42,11 +16,6 @@ module _ (foremost : Bool) (y k : ℕ) where
   note-more i (x ∷ wanted) [] h g = absurd (omega arith)
   note-more zero (x ∷ wanted) (p ∷ ps) h g = refl
   note-more (suc i) (x ∷ wanted) (p ∷ ps) h g = ap (λ (l : List ℕ). pick foremost x y k p ∷ l) (note-more i wanted ps (omega arith) (omega arith))
-
-  pub note_length : (wanted ps : List ℕ) → length (note foremost y k wanted ps) ≡ length ps
-  note_length [] ps = refl
-  note_length (x ∷ wanted) [] = refl
-  note_length (x ∷ wanted) (p ∷ ps) = ap suc (note_length wanted ps)
 
   pub none-noted : (wanted ps : List ℕ) → ((i : ℕ) → i < length wanted → get_or wanted i 0 ≢ y) → note foremost y k wanted ps ≡ ps
   none-noted [] ps h = refl

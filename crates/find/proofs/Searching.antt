@@ -5,9 +5,10 @@ use Prim.Native.Nat.{ℕ, zero, suc, ◌+◌, ◌<◌, ◌≤◌}
 use native.Mathlib.Omega.{arith}
 use lib.ListN.{length, get_or, length-reverse, replicate, drop_of_length-le}
 use borrow.Author.Tests.{le-leb}
+use Rattle.table.specs.Filling.{filling}
 use Rattle.model.specs.{declared.Entry.Entry, Walk.{Walk, broken, entries}}
-use Rattle.table.specs.Zeroing.{zeroing}
-use Rattle.walk.specs.{declared.{Way.Way, Tally.TheVariants.Labels}, Ways.turned_back}
+use Rattle.std.specs.Prelude.{Ok}
+use Rattle.walk.specs.{declared.Way.Way, Ways.turned_back}
 use Rattle.walk.specs.Over.{Made, made, lost, each, over}
 use Rattle.find_model.specs.{declared.FindReply.FindReply, Find.{found, refused}, Noting.{note, turned}}
 use Rattle.find_model.proofs.Positions.{notes, from_left, from_right}
@@ -17,7 +18,7 @@ use Rattle.find.proofs.{Noted.{notes_beyond, notes_most}, Turning.turn_all}
 abbrev pub blank : List ℕ
 blank = replicate 32 0
 
-abbrev with : ℕ → List ℕ → Noted
+abbrev pub with : ℕ → List ℕ → Noted
 with n ps = record { count = n; positions = ps }
 
 zeros : (n i : ℕ) → ◌≡◌ {A = ℕ} (get_or (replicate n 0) i 0) 0
@@ -59,6 +60,13 @@ module _ (foremost : Bool) (wanted : List ℕ) (n : ℕ) (ps : List ℕ) where
       (omega (arith, rows_are l e, notes_most foremost wanted 0 blank l (λ j. omega (arith, zeros 32 j)) i))
   within broken e i = absurd (let z : ◌≡◌ {A = ℕ} 0 1 = cc in omega arith)
 
+-- The positions zeroed.
+pub blanked : (ps : List ℕ) → length ps ≡ 32 → filling 32 0 ps ≡ blank
+unfolding filling
+blanked ps e =
+    rw (le-leb 32 (length ps) (omega arith))
+    (ap (λ (l : List ℕ). replicate 32 0 ++ l) (drop_of_length-le ps {i = 32} (omega arith)) ∙ append-nil (replicate 32 0))
+
 -- Where nothing waits nothing is found, nor in a broken walk.
 pub none_found : (wanted : List ℕ) → length wanted ≤ 32 → refused 0 ≡ found [] wanted
 unfolding found
@@ -69,14 +77,8 @@ pub nothing-found : (f : Noted → Entry → Noted) (s : Noted) (w : Way) (v : W
 nothing-found f s w (entries l) wanted e = absurd (let z : ◌≡◌ {A = ℕ} 0 1 = cc in omega arith)
 nothing-found f s w broken wanted e = refl
 
-pub blanked : (ps : List ℕ) → length ps ≡ 32 → zeroing 32 ps ≡ blank
-unfolding zeroing
-blanked ps e =
-    rw (le-leb 32 (length ps) (omega arith))
-    (ap (λ (l : List ℕ). replicate 32 0 ++ l) (drop_of_length-le ps {i = 32} (omega arith)) ∙ append-nil (replicate 32 0))
-
 module _ (w : Way) (wanted : List ℕ) (few : length wanted ≤ 32) (n : ℕ) (ps : List ℕ) where
-  pub left-found : (v : Walk) → w.rightward ≡ true → noted (Labels n) ps ≡ over (note_on w.rightward wanted) (with 0 blank) v
+  pub left-found : (v : Walk) → w.rightward ≡ true → noted (Ok n) ps ≡ over (note_on w.rightward wanted) (with 0 blank) v
       → ◌≡◌ {A = FindReply} (record { code = 0; rows = n; positions = ps }) (found_in (turned_back w v) wanted)
   unfolding found
   left-found (entries l) z e =
@@ -84,7 +86,7 @@ module _ (w : Way) (wanted : List ℕ) (few : length wanted ≤ 32) (n : ℕ) (p
       rw z (λ i. record { code = 0; rows = rows_are true wanted n ps l e' i; positions = (noted_are true wanted n ps l e' ∙ from_left wanted few l) i })
   left-found broken z e = absurd (let y : ◌≡◌ {A = ℕ} 0 1 = cc in omega arith)
 
-  pub right-found : (v : Walk) → w.rightward ≡ false → noted (Labels n) ps ≡ over (note_on w.rightward wanted) (with 0 blank) v
+  pub right-found : (v : Walk) → w.rightward ≡ false → noted (Ok n) ps ≡ over (note_on w.rightward wanted) (with 0 blank) v
       → ◌≡◌ {A = FindReply} (record { code = 0; rows = n; positions = turning (turned n) (length wanted) ps }) (found_in (turned_back w v) wanted)
   unfolding found
   right-found (entries l) z e =

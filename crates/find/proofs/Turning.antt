@@ -11,11 +11,6 @@ module _ (f : ℕ → ℕ) where
   turn_more zero (x ∷ l) h = refl
   turn_more (suc i) (x ∷ l) h = ap (λ (m : List ℕ). f x ∷ m) (turn_more i l (omega arith))
 
-  pub turn_length : (i : ℕ) (l : List ℕ) → length (turning f i l) ≡ length l
-  turn_length zero l = refl
-  turn_length (suc i) [] = refl
-  turn_length (suc i) (x ∷ l) = ap suc (turn_length i l)
-
   pub turn_at : (i : ℕ) (l : List ℕ) → get_or (turning f i l) i 0 ≡ get_or l i 0
   turn_at zero l = refl
   turn_at (suc i) [] = refl

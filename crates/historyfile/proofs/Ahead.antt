@@ -2,7 +2,7 @@
 use mathlib.Core.{Bool.{Bool, true, false, ◌||◌, cond}, List.{List, [], ◌∷◌, ◌++◌}, Path.{◌≡◌, sym, ap, ◌∙◌}}
 use Rattle.std.proofs.Common.{ℕ, suc, ◌+◌, ◌-◌, ◌<◌, ◌≤◌, arith}
 use lib.{Dec.eqb, ListN.{length, get_or, take, drop, drop_of_length-le, length-drop}, Seq.{get_or-drop, take-suc}}
-use Rattle.model.proofs.Tests.Truth.{by_test, split}
+use Rattle.model.proofs.Tests.Truth.{split}
 use Rattle.historyfile.specs.{declared.reading.{Place.Place, State.State}, Text.{Piece, line_end, of_word, pieces}}
 use Rattle.historyfile.specs.Buffer.{Within, ahead, held, reading, separated}
 use Rattle.historyfile.specs.Reading.{ended_line, read_all, read_end, read_word}
@@ -38,7 +38,7 @@ module _ (m n : ℕ) (text : List ℕ) (i : ℕ) (s : State) (calls order : List
   module _ (t : State) (calls' order' : List ℕ) (same : t.comment ≡ s.comment) where
     separated-ahead : (b : ℕ) → ahead m n text (i + 1) (separated t b (i + 1)) calls' order'
         ≡ held m n (read_all (follows t.comment b) (reading t calls' order'))
-    unfolding ahead separated read_all
+    unfolding ahead read_all
     separated-ahead b = split (eqb b 10)
         (λ e. rw (e, nothing_yet (i + 1)))
         (λ e. rw (e, nothing_yet (i + 1)))
@@ -69,12 +69,5 @@ text_ends m n text i s calls order h t calls' order' w p e k r =
     (drop_of_length-le text {i = i} h))
 
 -- The numbers kept stay within their buffers.
-pub separated-within : (s : State) (b next m n : ℕ) → Within s m n → ((separated s b next).from ≤ next) × Within (separated s b next) m n
-unfolding separated
-separated-within s b next m n h =
-    by_test (λ (x : State). (x.from ≤ next) × Within x m n) (eqb b 10)
-    (λ _. (omega arith, record { calls = h.calls; order = h.order }))
-    (λ _. (omega arith, record { calls = h.calls; order = h.order }))
-
 pub same-within : (s : State) (m n m' n' : ℕ) → m' ≡ m → n' ≡ n → Within s m n → Within s m' n'
 same-within s m n m' n' d e h = record { calls = omega (arith, h.calls); order = omega (arith, h.order) }

@@ -1,19 +1,20 @@
 -- A reading whose first numbers alone are held goes on to the same first numbers.
-use mathlib.Core.{Bool.{Bool, true, false, ◌&&◌, ◌||◌, cond, not}, List.{List, [], ◌∷◌, ◌++◌}, Path.{◌≡◌, sym, ap, ◌∙◌}}
-use Rattle.std.proofs.Common.{ℕ, ◌+◌, ◌<◌, ◌≤◌, length-take-le, take_all, take-take, take-suc-set, leb-false, leb-true}
-use native.Mathlib.{Numerals.add-one, Omega.arith}
-use lib.{Dec.{eqb, eqb-suc-zero, leb}, ListN.{length, set, take, length-append, length-take}}
+use mathlib.Core.{Bool.{Bool, true, false, true≢false, ◌||◌, cond}, List.{List, [], ◌∷◌, ◌++◌}, Path.{◌≡◌, sym, ap, ◌∙◌}}
+use Rattle.std.proofs.Common.{ℕ, ◌≤◌, length-take-le, take_all, take-take, leb-false, leb-true}
+use native.Mathlib.{Omega.arith}
+use lib.{Dec.{eqb, eqb-suc-zero, leb}, ListN.{length, take, length-take}}
 use lib.Seq.{take-append-le}
-use borrow.Author.Tests.{not-false, not-true}
+use Rattle.std.specs.Prelude.{Option, Some, None, is_some, is_none}
+use Rattle.historyfile.specs.declared.words.Fault.{Fault}
 use Rattle.model.proofs.Tests.Truth.{split}
 use Rattle.historyfile.specs.{declared.reading.{State.State, Turn.Turn}, Buffer.{Within, held, reading}}
-use Rattle.historyfile.specs.{Reading.{Reading, appended, kept, read_all, read_end, read_word, turned}, Words.says}
+use Rattle.historyfile.specs.{Reading.{Reading, appended, kept, kept_in, read_all, read_end, read_word, turned}, Words.says}
 use Rattle.historyfile.specs.Text.{Piece, word, line_end}
 
 -- The first m of a list, behind which one more may be put.
-take_appended : (m : ℕ) (g : Bool) (v : ℕ) (l : List ℕ) → take m (appended g v (take m l)) ≡ take m (appended g v l)
-take_appended m false v l = take-take m m l (omega arith)
-take_appended m true v l = split (leb (length l) m)
+take_appended : (m : ℕ) (v : Option ℕ) (l : List ℕ) → take m (appended v (take m l)) ≡ take m (appended v l)
+take_appended m None l = take-take m m l (omega arith)
+take_appended m (Some v) l = split (leb (length l) m)
     (λ e. ap (λ (x : List ℕ). take m (x ++ (v ∷ []))) (take_all m l (leb-true (length l) m e)))
     (λ e. let h = leb-false (length l) m e in
     let k : length (take m l) ≡ m = length-take-le m l (omega arith) in
@@ -24,12 +25,11 @@ take_short k c l h = take_all k (take c l) (omega (arith, length-take c l))
 
 module _ (m n : ℕ) where
   kept-held : (t : Turn) (r : Reading) → held m n (kept t (held m n r)) ≡ held m n (kept t r)
-  unfolding kept
-  kept-held t r = λ i. record {
-    place = t.place;
-    calls = take_appended m (t.gives && not (eqb r.place.column 8)) t.value r.calls i;
-    order = take_appended n (t.gives && eqb r.place.column 8) t.value r.order i;
-  }
+  kept-held t r = go (eqb r.place.column 8)
+    where
+      go : (b : Bool) → held m n (kept_in b t (held m n r)) ≡ held m n (kept_in b t r)
+      go true = λ i. record { place = t.place; calls = take-take m m r.calls (omega arith) i; order = take_appended n t.value r.order i }
+      go false = λ i. record { place = t.place; calls = take_appended m t.value r.calls i; order = take-take n n r.order (omega arith) i }
 
   twice : (r : Reading) → held m n (held m n r) ≡ held m n r
   twice r = λ i. record { place = r.place; calls = take-take m m r.calls (omega arith) i; order = take-take n n r.order (omega arith) i }
@@ -37,7 +37,7 @@ module _ (m n : ℕ) where
   word_held : (w : List ℕ) (r : Reading) → held m n (read_word w (held m n r)) ≡ held m n (read_word w r)
   unfolding read_word
   word_held [] r = twice r
-  word_held (b ∷ bs) r = go (eqb r.place.fault 0)
+  word_held (b ∷ bs) r = go (is_none r.place.fault)
     where
       t : Turn
       t = turned r.place (says r.place.column (b ∷ bs))
@@ -63,35 +63,27 @@ module _ (m n : ℕ) where
 
   -- A word that is empty, or behind a fault, says nothing; any other does.
   module _ (s : State) (calls order : List ℕ) (h : Within s m n) where
-    pub word_none : (w : List ℕ) → eqb (length w) 0 || not (eqb s.place.fault 0) ≡ true
+    pub word_none : (w : List ℕ) → eqb (length w) 0 || is_some s.place.fault ≡ true
         → reading s calls order ≡ held m n (read_word w (reading s calls order))
     unfolding read_word
     word_none [] e = sym (lies_held s calls order h)
-    word_none (b ∷ bs) e =
-        rw (not-true (eqb s.place.fault 0) (rw (eqb-suc-zero (length bs)) at e)) (sym (lies_held s calls order h))
+    word_none (b ∷ bs) e = go s.place.fault (rw (eqb-suc-zero (length bs)) at e)
+      where
+        go : (f : Option Fault) → is_some f ≡ true
+            → reading s calls order ≡ held m n
+            (cond (is_none f) (kept (turned s.place (says s.place.column (b ∷ bs))) (reading s calls order)) (reading s calls order))
+        go None e = absurd (true≢false (sym e))
+        go (Some why) e = sym (lies_held s calls order h)
 
-    pub word_some : (w : List ℕ) (r : Reading) → eqb (length w) 0 || not (eqb s.place.fault 0) ≡ false
+    pub word_some : (w : List ℕ) (r : Reading) → eqb (length w) 0 || is_some s.place.fault ≡ false
         → r ≡ held m n (kept (turned s.place (says s.place.column w)) (reading s calls order))
         → r ≡ held m n (read_word w (reading s calls order))
     unfolding read_word
-    word_some [] r e k = absurd (let z : true ≡ false = e in let y : ◌≡◌ {A = ℕ} 0 1 = cc in omega arith)
-    word_some (b ∷ bs) r e k = rw (not-false (eqb s.place.fault 0) (rw (eqb-suc-zero (length bs)) at e)) k
-
--- One number kept, or none.
-module _ (values : List ℕ) (count value : ℕ) (gives : Bool) (h : count ≤ length values) where
-  pub none-given : not gives ≡ true → take count values ≡ take (length values) (appended gives value (take count values))
-  none-given e = rw (not-true gives e) (sym (take_short (length values) count values h))
-
-  pub none-fits : not gives ≡ false → length values ≤ count → take count values ≡ take (length values) (appended gives value (take count values))
-  none-fits e k =
-      let z : length (take count values) ≡ count = length-take-le count values h in
-      rw (not-false gives e)
-      (sym (take-append-le (length values) (take count values) (value ∷ []) (omega arith) ∙ take_short (length values) count values h))
-
-  pub one_more : not gives ≡ false → count < length values
-      → take (count + 1) (set values count value) ≡ take (length values) (appended gives value (take count values))
-  one_more e k =
-      let z : length (take count values) ≡ count = length-take-le count values h in
-      rw (not-false gives e)
-      (ap (λ (n : ℕ). take n (set values count value)) (add-one count) ∙ take-suc-set values count value k
-      ∙ sym (take_all (length values) (take count values ++ (value ∷ [])) (omega (arith, length-append (take count values) (value ∷ [])))))
+    word_some [] r e k = absurd (true≢false e)
+    word_some (b ∷ bs) r e k = go s.place.fault (rw (eqb-suc-zero (length bs)) at e)
+      where
+        go : (f : Option Fault) → is_some f ≡ false
+            → r ≡ held m n
+            (cond (is_none f) (kept (turned s.place (says s.place.column (b ∷ bs))) (reading s calls order)) (reading s calls order))
+        go None e = k
+        go (Some why) e = absurd (true≢false e)

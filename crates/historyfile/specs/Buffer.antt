@@ -17,11 +17,11 @@ ahead m n text i s calls order =
     held m n (read_all (pieces s.comment (take (i - s.from) (drop s.from text)) (drop i text)) (reading s calls order))
 
 -- Behind a byte that ended a word, the next word beginning at a position.
-unfoldable pub separated : State → ℕ → ℕ → State
+abbrev pub separated : State → ℕ → ℕ → State
 separated s b next =
     cond (eqb b 10)
-    (record { place = ended_line s.place; calls = s.calls; order = s.order; from = next; comment = false })
-    (record { place = s.place; calls = s.calls; order = s.order; from = next; comment = s.comment || eqb b 35 })
+    (record s { place = ended_line s.place; from = next; comment = false })
+    (record s { from = next; comment = s.comment || eqb b 35 })
 
 pub record Within (s : State) (m n : ℕ) : Type 0 where
   pub calls : s.calls ≤ m

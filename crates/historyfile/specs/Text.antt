@@ -15,7 +15,7 @@ abbrev pub is_blank : ℕ → Bool
 is_blank b = b == 32 || b == 9 || b == 13
 
 -- A byte of a word: it is in no comment, and neither blank, # nor a line's end.
-unfoldable pub of_word : Bool → ℕ → Bool
+abbrev pub of_word : Bool → ℕ → Bool
 of_word comment b = not (comment || is_blank b || b == 35 || b == 10)
 
 -- The words of a text and the ends of its lines, in order, after the word under way. Between two blanks lies an empty word.

@@ -1,13 +1,13 @@
 //! One word after the other: words into numbers, each in its column, kept in lent buffers.
 ghost use mathlib.Core.{Path.◌≡◌, Bool.false};
-ghost use Rattle.std.specs.Prelude.{◌+◌, ◌^◌, ◌<◌, ◌≤◌, length, take};
+ghost use Rattle.std.specs.Prelude.{◌+◌, ◌^◌, ◌<◌, ◌≤◌, length, take, Ok};
 ghost use Rattle.historyfile.specs.Buffer.{BothWritten, Within, Written, ahead, held, reading, separated};
 ghost use Rattle.historyfile.specs.Reading.{appended, at_start, ended_line, kept, next_column, next_line, numbered};
 ghost use Rattle.historyfile.specs.{Reading.{read_word, stopped, turned, whole}, Words.says};
-ghost use Rattle.historyfile.specs.declared.words.Meaning;
+ghost use Rattle.historyfile.specs.declared.words.Meaning.TheVariants.{Number, Order};
 
 use crate::words;
-use crate::words::Meaning;
+use crate::words::{Fault, Meaning};
 
 /// Where the reading stands.
 #[derive(Clone, Copy)]
@@ -15,19 +15,19 @@ pub struct Place {
     /// The line, from 1.
     pub line: u64,
     /// The column of the next word of a call, 0 to 6; 7 behind the last, 8 in the order.
+    // A number and no enum, since `words::says` answers for every number, and may ask no more of its callers.
     pub column: u64,
     /// The label of the call is `-`.
     pub unlabelled: bool,
-    /// 0, or why the text cannot be read.
-    pub fault: u64,
+    /// Why the text cannot be read, if it cannot.
+    pub fault: Option<Fault>,
 }
 
 /// Behind a word: where the reading stands, and the number that it gave, if any.
 #[derive(Clone, Copy)]
 pub struct Turn {
     pub place: Place,
-    pub gives: bool,
-    pub value: u64,
+    pub value: Option<u64>,
 }
 
 /// How far the reading is: the numbers kept of the calls and of the order, where the word under way begins, and whether a comment is read.
@@ -40,137 +40,108 @@ pub struct State {
     pub comment: bool,
 }
 
-fn stops(p: Place, why: u64) -> Turn
+fn stops(p: Place, why: Fault) -> Turn
     ensures { result ≡ stopped p why }
 {
     let place = Place {
-        line: p.line,
-        column: p.column,
-        unlabelled: p.unlabelled,
-        fault: why,
+        fault: Some(why),
+        ..p
     };
-    Turn {
-        place,
-        gives: false,
-        value: 0,
-    }
+    Turn { place, value: None }
 }
 
 fn next_column(column: u64) -> u64
     ensures { result ≡ next_column column }
 {
-    if column < 8 {
-        return column + 1;
-    }
-    column
+    if column < 8 { column + 1 } else { column }
 }
 
 fn gives(p: Place, dash: bool, value: u64) -> Turn
     ensures { result ≡ numbered p dash value }
 {
-    let column = next_column(p.column);
     let place = Place {
-        line: p.line,
-        column,
+        column: next_column(p.column),
         unlabelled: dash,
-        fault: 0,
+        fault: None,
+        ..p
     };
     Turn {
         place,
-        gives: true,
-        value,
+        value: Some(value),
     }
 }
 
 // In the order.
 fn begins_order(p: Place) -> Turn
-    ensures { result ≡ turned p Meaning.Order }
+    ensures { result ≡ turned p (Ok Order) }
 {
     let place = Place {
-        line: p.line,
         column: 8,
         unlabelled: false,
-        fault: 0,
+        fault: None,
+        ..p
     };
-    Turn {
-        place,
-        gives: false,
-        value: 0,
-    }
+    Turn { place, value: None }
 }
 
 fn take_number(p: Place, n: u64) -> Turn
-    ensures { result ≡ turned p (Meaning.Number n) }
+    ensures { result ≡ turned p (Ok (Number n)) }
 {
     if p.unlabelled & (p.column == 4) & (n != 3) {
-        return stops(p, words::UNLABELLED);
+        return stops(p, Fault::Unlabelled);
     }
     gives(p, p.unlabelled, n)
-}
-
-fn take_meaning(p: Place, m: Meaning) -> Turn
-    ensures { result ≡ turned p m }
-{
-    match m {
-        Meaning::Number(n) => take_number(p, n),
-        Meaning::NoLabel => gives(p, true, 0),
-        Meaning::Order => begins_order(p),
-        Meaning::Fault(why) => stops(p, why),
-    }
 }
 
 fn behind_word(p: Place, word: &[u8]) -> Turn
     ensures { result ≡ turned p (says p.column word.now) }
 {
-    let m = words::says(p.column, word);
-    take_meaning(p, m)
+    match words::says(p.column, word) {
+        Ok(Meaning::Number(n)) => take_number(p, n),
+        Ok(Meaning::NoLabel) => gives(p, true, 0),
+        Ok(Meaning::Order) => begins_order(p),
+        Err(why) => stops(p, why),
+    }
 }
 
 // The line after this one, in the first column or still in the order.
 fn next_line(p: Place) -> Place
     ensures { result ≡ next_line p }
 {
-    let line = std::num::wrapping_add_u64(p.line, 1);
-    let mut column = p.column;
-    if column == 7 {
-        column = 0;
-    }
     Place {
-        line,
-        column,
+        line: p.line.wrapping_add(1),
+        column: if p.column == 7 { 0 } else { p.column },
         unlabelled: false,
-        fault: 0,
+        fault: None,
     }
 }
 
 fn end_line(p: Place) -> Place
     ensures { result ≡ ended_line p }
 {
-    if p.fault != 0 {
+    if p.fault.is_some() {
         return p;
     }
     if (0 < p.column) & (p.column < 7) {
-        let t = stops(p, words::SEVEN);
-        return t.place;
+        return stops(p, Fault::Seven).place;
     }
     next_line(p)
 }
 
 // Keeps a number, if there is one and room for it, and answers how many are kept.
-fn keep(gives: bool, value: u64, count: usize, values: &mut [u64]) -> usize
+fn keep(value: Option<u64>, count: usize, values: &mut [u64]) -> usize
     requires { count ≤ length values.old }
-    ensures values_after { take result values.new ≡ take (length values.old) (appended gives value (take count values.old)) }
+    ensures values_after { take result values.new ≡ take (length values.old) (appended value (take count values.old)) }
     ensures upper_bound { result ≤ length values.old }
     ensures written { Written count result values.old values.new }
 {
-    if !gives {
-        return count;
+    match value {
+        Some(n) if count < values.len() => {
+            values[count] = n;
+            count + 1
+        }
+        _ => count,
     }
-    if values.len() <= count {
-        return count;
-    }
-    values[count] = value;
-    count + 1
 }
 
 // The numbers kept with one more, of a call or of the order.
@@ -181,17 +152,19 @@ fn keep_turn(s: State, t: Turn, calls: &mut [u64], order: &mut [u64]) -> State
     ensures within { Within result (length calls.old) (length order.old) × (result.from ≡ s.from) × (result.comment ≡ s.comment) }
     ensures both_written { BothWritten s result calls.old order.old calls.new order.new }
 {
-    let place = s.place;
-    let in_order = place.column == 8;
-    let m = keep(t.gives & !in_order, t.value, s.calls, calls);
-    let n = keep(t.gives & in_order, t.value, s.order, order);
-    let next = t.place;
+    if s.place.column == 8 {
+        let n = keep(t.value, s.order, order);
+        return State {
+            place: t.place,
+            order: n,
+            ..s
+        };
+    }
+    let m = keep(t.value, s.calls, calls);
     State {
-        place: next,
+        place: t.place,
         calls: m,
-        order: n,
-        from: s.from,
-        comment: s.comment,
+        ..s
     }
 }
 
@@ -204,11 +177,10 @@ fn take_word(s: State, word: &[u8], calls: &mut [u64], order: &mut [u64]) -> Sta
     ensures within { Within result (length calls.old) (length order.old) × (result.from ≡ s.from) × (result.comment ≡ s.comment) }
     ensures both_written { BothWritten s result calls.old order.old calls.new order.new }
 {
-    let place = s.place;
-    if (word.len() == 0) | (place.fault != 0) {
+    if word.is_empty() | s.place.fault.is_some() {
         return s;
     }
-    let t = behind_word(place, word);
+    let t = behind_word(s.place, word);
     keep_turn(s, t, calls, order)
 }
 
@@ -217,23 +189,18 @@ fn separate(s: State, b: u8, i: usize) -> State
     requires { i + 1 < 2 ^ 64 }
     ensures { result ≡ separated s b (i + 1) }
 {
-    let place = s.place;
-    if b == 10 {
-        let next = end_line(place);
+    if b == b'\n' {
         return State {
-            place: next,
-            calls: s.calls,
-            order: s.order,
+            place: end_line(s.place),
             from: i + 1,
             comment: false,
+            ..s
         };
     }
     State {
-        place,
-        calls: s.calls,
-        order: s.order,
         from: i + 1,
-        comment: s.comment | (b == 35),
+        comment: s.comment | (b == b'#'),
+        ..s
     }
 }
 
@@ -249,8 +216,7 @@ fn take_byte(s: State, text: &[u8], i: usize, calls: &mut [u64], order: &mut [u6
     if words::of_word(s.comment, b) {
         return s;
     }
-    let from = s.from;
-    let t = take_word(s, &text[from..i], calls, order);
+    let t = take_word(s, &text[s.from..i], calls, order);
     separate(t, b, i)
 }
 
@@ -261,7 +227,7 @@ fn begin() -> State
         line: 1,
         column: 0,
         unlabelled: false,
-        fault: 0,
+        fault: None,
     };
     State {
         place,
@@ -283,14 +249,9 @@ pub fn read(text: &[u8], calls: &mut [u64], order: &mut [u64]) -> State
     for i in 0..text.len() {
         s = take_byte(s, text, i, calls, order);
     }
-    let from = s.from;
-    let t = take_word(s, &text[from..], calls, order);
-    let place = end_line(t.place);
+    let t = take_word(s, &text[s.from..], calls, order);
     State {
-        place,
-        calls: t.calls,
-        order: t.order,
-        from: t.from,
-        comment: t.comment,
+        place: end_line(t.place),
+        ..t
     }
 }

@@ -1,6 +1,7 @@
 //! Words: which bytes are of one, and what it says in its column.
 ghost use mathlib.Core.{Bool.true, Path.◌≡◌};
-ghost use Rattle.historyfile.specs.{Text.{is_blank, of_word}, Words.{all_digits, fits, is_digit}};
+ghost use Rattle.std.specs.{Char.is_ascii_digit, List.list_all};
+ghost use Rattle.historyfile.specs.Text.{is_blank, of_word};
 ghost use Rattle.historyfile.specs.Words as meaning;
 
 /// What a word says.
@@ -11,153 +12,110 @@ pub enum Meaning {
     NoLabel,
     /// The order begins.
     Order,
-    /// Why it cannot be read.
-    Fault(u64),
 }
 
-/// No word of its column.
-pub const UNKNOWN: u64 = 1;
+/// Why a text cannot be read.
+#[derive(Clone, Copy, PartialEq, Eq)]
+pub enum Fault {
+    /// No word of its column.
+    Unknown,
+    /// A number above 18,446,744,073,709,551,615.
+    Large,
+    /// A call of fewer or more than seven words.
+    Seven,
+    /// `-` with another answer than *empty*.
+    Unlabelled,
+}
 
-/// A number above 18,446,744,073,709,551,615.
-pub const LARGE: u64 = 2;
-
-/// A call of fewer or more than seven words.
-pub const SEVEN: u64 = 3;
-
-/// `-` with another answer than *empty*.
-pub const UNLABELLED: u64 = 4;
-
-// Space, tab, carriage return.
 fn is_blank(b: u8) -> bool
     ensures { result ≡ is_blank b }
 {
-    (b == 32) | (b == 9) | (b == 13)
+    matches!(b, b' ' | b'\t' | b'\r')
 }
 
 /// Whether a byte is one of a word.
 pub(crate) fn of_word(comment: bool, b: u8) -> bool
     ensures { result ≡ of_word comment b }
 {
-    !(comment | is_blank(b) | (b == 35) | (b == 10))
-}
-
-fn same(word: &[u8], name: &[u8]) -> bool
-    ensures { result ≡ meaning.same word.now name.now }
-{
-    if word.len() != name.len() {
-        return false;
-    }
-    for i in 0..word.len() {
-        if word[i] != name[i] {
-            return false;
-        }
-    }
-    true
-}
-
-fn is_digit(b: u8) -> bool
-    ensures { result ≡ is_digit b }
-{
-    (48 <= b) & (b <= 57)
+    !(comment || is_blank(b) || matches!(b, b'#' | b'\n'))
 }
 
 fn all_digits(word: &[u8]) -> bool
-    ensures { result ≡ all_digits word.now }
+    ensures { result ≡ list_all is_ascii_digit word.now }
 {
-    for i in 0..word.len() {
-        if !is_digit(word[i]) {
-            return false;
-        }
-    }
-    true
-}
-
-// Whether a number with one more digit is below 2 ^ 64.
-fn has_room(n: u64, digit: u64) -> bool
-    ensures { result ≡ fits n digit }
-{
-    (n < 1844674407370955161) | ((n == 1844674407370955161) & (digit <= 5))
+    word.iter().all(u8::is_ascii_digit)
 }
 
 // A word of digits.
-fn number(column: u64, word: &[u8]) -> Meaning
-    requires { all_digits word.now ≡ true }
+fn number(column: u64, word: &[u8]) -> Result<Meaning, Fault>
+    requires { list_all is_ascii_digit word.now ≡ true }
     ensures { result ≡ meaning.number column word.now }
 {
     let mut n: u64 = 0;
-    for i in 0..word.len() {
-        let digit = word[i] as u64 - 48;
-        if !has_room(n, digit) {
-            return Meaning::Fault(LARGE);
-        }
-        n = n * 10 + digit;
+    for b in word {
+        let tens = n.checked_mul(10).ok_or(Fault::Large)?;
+        n = tens.checked_add(u64::from(*b - b'0')).ok_or(Fault::Large)?;
     }
     if column == 7 {
-        return Meaning::Fault(SEVEN);
+        return Err(Fault::Seven);
     }
-    Meaning::Number(n)
+    Ok(Meaning::Number(n))
 }
 
 // Each of these: a word of one column.
-fn first(word: &[u8]) -> Meaning
+fn first(word: &[u8]) -> Result<Meaning, Fault>
     ensures { result ≡ meaning.first word.now }
 {
-    if same(word, b"order") {
-        return Meaning::Order;
+    match word {
+        b"order" => Ok(Meaning::Order),
+        _ => Err(Fault::Unknown),
     }
-    Meaning::Fault(UNKNOWN)
 }
 
-fn kind(word: &[u8]) -> Meaning
+// Kinds, sides and answers stay numbers, since a history may name them by any number, and `audit::audit_words` judges the
+// numbers that it is lent.
+fn kind(word: &[u8]) -> Result<Meaning, Fault>
     ensures { result ≡ meaning.kind word.now }
 {
-    if same(word, b"push") {
-        return Meaning::Number(0);
+    match word {
+        b"push" => Ok(Meaning::Number(0)),
+        b"pop" => Ok(Meaning::Number(1)),
+        _ => Err(Fault::Unknown),
     }
-    if same(word, b"pop") {
-        return Meaning::Number(1);
-    }
-    Meaning::Fault(UNKNOWN)
 }
 
-fn side(word: &[u8]) -> Meaning
+fn side(word: &[u8]) -> Result<Meaning, Fault>
     ensures { result ≡ meaning.side word.now }
 {
-    if same(word, b"left") {
-        return Meaning::Number(0);
+    match word {
+        b"left" => Ok(Meaning::Number(0)),
+        b"right" => Ok(Meaning::Number(1)),
+        _ => Err(Fault::Unknown),
     }
-    if same(word, b"right") {
-        return Meaning::Number(1);
-    }
-    Meaning::Fault(UNKNOWN)
 }
 
-fn label(word: &[u8]) -> Meaning
+fn label(word: &[u8]) -> Result<Meaning, Fault>
     ensures { result ≡ meaning.label word.now }
 {
-    if same(word, b"-") {
-        return Meaning::NoLabel;
+    match word {
+        b"-" => Ok(Meaning::NoLabel),
+        _ => Err(Fault::Unknown),
     }
-    Meaning::Fault(UNKNOWN)
 }
 
-fn answer(word: &[u8]) -> Meaning
+fn answer(word: &[u8]) -> Result<Meaning, Fault>
     ensures { result ≡ meaning.answer word.now }
 {
-    if same(word, b"pushed") {
-        return Meaning::Number(2);
+    match word {
+        b"pushed" => Ok(Meaning::Number(2)),
+        b"empty" => Ok(Meaning::Number(3)),
+        b"popped" => Ok(Meaning::Number(4)),
+        _ => Err(Fault::Unknown),
     }
-    if same(word, b"empty") {
-        return Meaning::Number(3);
-    }
-    if same(word, b"popped") {
-        return Meaning::Number(4);
-    }
-    Meaning::Fault(UNKNOWN)
 }
 
 // A word that is no number.
-fn name(column: u64, word: &[u8]) -> Meaning
+fn name(column: u64, word: &[u8]) -> Result<Meaning, Fault>
     ensures { result ≡ meaning.name column word.now }
 {
     match column {
@@ -166,19 +124,19 @@ fn name(column: u64, word: &[u8]) -> Meaning
         2 => side(word),
         3 => label(word),
         4 => answer(word),
-        _ => Meaning::Fault(UNKNOWN),
+        _ => Err(Fault::Unknown),
     }
 }
 
 /// What a word says in its column.
-pub fn says(column: u64, word: &[u8]) -> Meaning
+pub fn says(column: u64, word: &[u8]) -> Result<Meaning, Fault>
     ensures { result ≡ meaning.says column word.now }
 {
     if all_digits(word) {
         return number(column, word);
     }
     if column == 7 {
-        return Meaning::Fault(SEVEN);
+        return Err(Fault::Seven);
     }
     name(column, word)
 }

@@ -1,20 +1,22 @@
 -- The rules stage by stage: refused before the walks, by one of them, or as the rules after them say.
-use mathlib.Core.{Path.{◌≡◌, refl, sym, ap, ap₂, subst, ◌∙◌}, Bool.{Bool, true, false, not, cond}, List.{List, [], ◌∷◌}}
+use mathlib.Core.{Path.{◌≡◌, refl, sym, ap, ap₂, subst, ◌∙◌}, Bool.{Bool, true, false, not, cond, ◌&&◌}, List.{List, [], ◌∷◌}}
 use mathlib.Core.Logic.{◌≢◌}
-use Prim.Native.Nat.{ℕ, ◌+◌, ◌≤◌}
+use Prim.Native.Nat.{ℕ, ◌+◌, ◌/◌, ◌≤◌}
 use native.Mathlib.Omega.{arith}
 use lib.{Dec.ltb, ListN.{length, length-map}}
 use Rattle.model.specs.{declared.{Control.Control, Entry.Entry}, Tables.{Queue, tables_of, queue_of}, Lists.every}
 use Rattle.model.specs.{Sound.{control_tests, control_sound}, Walk.{contents, met}}
 use Rattle.model.proofs.{Tests.Rules.tests, Bridge.Facts.from1_true}
 use Rattle.sound.specs.Lengths.{lengths_of}
-use Rattle.walk.specs.{declared.Tally.{Tally, TheVariants.{Broken, Labels}}, Counted.counted}
+use Rattle.walk.specs.{declared.Unsound.Unsound, Counted.counted}
 use Rattle.walk.proofs.Counting.{all-counted, none-counted}
 use Rattle.layout.{specs.Rows.records_of, proofs.Rows.length_records}
 use Rattle.stock_model.specs.Accounts.{waiting_labels}
 use Rattle.join_model.specs.Join.{anchor_in, lanes, source_fits, third_fits, at_rest, fresh}
 use Rattle.join_model.{specs.Closed.{late_for, closed_refusal}, proofs.Merged.{interleaved, length_merged}}
-use Rattle.join.specs.{declared.admit.Admission.Admission, Stages.{lengths_fit, tests_refusal, later_refusal}}
+use Rattle.std.specs.Prelude.{Result, Ok, Err}
+use Rattle.model.specs.{declared.Refusal.Refusal, Outcomes.Refused}
+use Rattle.join.specs.{declared.admit.Waiting.Waiting, Stages.{lengths_fit, tests_refusal, later_refusal}}
 use Rattle.join.specs.Admits.{walked, Admits}
 
 -- Long enough by the lengths is long enough, whatever marks and next table are told of.
@@ -41,21 +43,15 @@ none-applies true true false f e = absurd (omega arith)
 none-applies true false q f e = absurd (omega arith)
 none-applies false b q f e = absurd (omega arith)
 
-abbrev pub refused_by : ℕ → Admission
-refused_by n = record { code = n; first = 0; second = 0 }
-
 module _ (a b q : Queue) where
   abbrev pub why : ℕ
   why =
       tests_refusal (control_sound a.tables.control) (control_sound b.tables.control) (control_sound q.tables.control)
       (every (source_fits a ∷ source_fits b ∷ third_fits q ∷ []))
 
-  refusing : (n : ℕ) → n ≡ closed_refusal a b q → n ≢ 0 → Admits a b q (refused_by n)
-  refusing n e h = record { refusal = e; first = λ z. absurd (h z); second = λ z. absurd (h z) }
-
-  pub turned_away : (n : ℕ) → n ≡ why → n ≢ 0 → Admits a b q (refused_by n)
+  pub turned_away : (n : ℕ) → n ≡ why → n ≢ 0 → Admits a b q (Refused n)
   unfolding closed_refusal
-  turned_away n e h = refusing n (e ∙ sym (one_applies _ _ _ _ _ (λ z. h (e ∙ z)))) h
+  turned_away n e h = (e ∙ sym (one_applies _ _ _ _ _ (λ z. h (e ∙ z))), h)
 
   module _ (n : ℕ) (e : n ≡ why) (z : n ≡ 0) where
     passed : (control_sound a.tables.control ≡ true) × (control_sound b.tables.control ≡ true) × (control_sound q.tables.control ≡ true)
@@ -66,25 +62,27 @@ module _ (a b q : Queue) where
     unfolding control_sound
     small = (from1_true 1023 q.tables.control.slots (tests (control_tests q.tables.control) passed.2).1.0).1
 
-    first-lost : Broken ≡ counted (contents a.tables) → Admits a b q (refused_by 34)
+    first-lost : (u : Unsound) → Err u ≡ counted (contents a.tables) → Admits a b q (Refused 34)
     unfolding closed_refusal
-    first-lost g = refusing 34 (rw (passed.0, passed.1, passed.2, passed.3, none-counted (contents a.tables) g)) (λ z. omega arith)
+    first-lost u g = (rw (passed.0, passed.1, passed.2, passed.3, none-counted (contents a.tables) u g), λ z. omega arith)
 
-    module _ (k : ℕ) (g : Labels k ≡ counted (contents a.tables)) where
-      second-lost : Broken ≡ counted (contents b.tables) → Admits a b q (refused_by 34)
+    module _ (k : ℕ) (g : Ok k ≡ counted (contents a.tables)) where
+      second-lost : (u : Unsound) → Err u ≡ counted (contents b.tables) → Admits a b q (Refused 34)
       unfolding closed_refusal
-      second-lost h =
-          refusing 34 (rw (
-            passed.0,
-            passed.1,
-            passed.2,
-            passed.3,
-            (all-counted (contents a.tables) k g).0,
-            none-counted
-                (contents b.tables) h,
-          )) (λ z. omega arith)
+      second-lost u h = (
+        rw (
+          passed.0,
+          passed.1,
+          passed.2,
+          passed.3,
+          (all-counted (contents a.tables) k g).0,
+          none-counted
+              (contents b.tables) u h,
+        ),
+        λ z. omega arith,
+      )
 
-      module _ (m : ℕ) (h : Labels m ≡ counted (contents b.tables)) where
+      module _ (m : ℕ) (h : Ok m ≡ counted (contents b.tables)) where
         in_first : k ≡ length (waiting_labels a.tables)
         in_first = (all-counted (contents a.tables) k g).1 ∙ sym (length-map (met (contents a.tables)) (λ (e : Entry). e.label))
 
@@ -94,36 +92,56 @@ module _ (a b q : Queue) where
         in_both : k + m ≡ length (lanes a b)
         in_both = ap₂ (λ (x y : ℕ). x + y) in_first in_second ∙ sym (length_merged (interleaved (waiting_labels a.tables) (waiting_labels b.tables)))
 
-        pub decided : (code : ℕ)
-            → code ≡ later_refusal (every (at_rest a ∷ at_rest b ∷ fresh q ∷ [])) (ltb q.tables.control.slots (k + m)) (late_for (anchor_in q).tag (k + m))
-            → Admits a b q (record { code = code; first = k; second = m })
-        unfolding closed_refusal later_refusal
-        decided code d = record {
-          refusal =
+        module _ (code : ℕ)
+            (d : code ≡ later_refusal (every (at_rest a ∷ at_rest b ∷ fresh q ∷ [])) (ltb q.tables.control.slots (k + m))
+            (late_for (anchor_in q).tag (k + m))) where
+          decided : code ≡ closed_refusal a b q
+          unfolding closed_refusal later_refusal
+          decided =
               d ∙ ap (λ (n : ℕ). later_refusal (every (at_rest a ∷ at_rest b ∷ fresh q ∷ [])) (ltb q.tables.control.slots n)
               (late_for (anchor_in q).tag n)) in_both
-              ∙ rw (passed.0, passed.1, passed.2, passed.3, (all-counted (contents a.tables) k g).0, (all-counted (contents b.tables) m h).0);
-          first = λ z. in_first;
-          second = λ z. in_second;
-        }
+              ∙ rw (passed.0, passed.1, passed.2, passed.3, (all-counted (contents a.tables) k g).0, (all-counted (contents b.tables) m h).0)
+
+          pub turned_away_late : code ≢ 0 → Admits a b q (Refused code)
+          turned_away_late o = (decided, o)
+
+          pub let_in : code ≡ 0 → Admits a b q (Ok (record { first = k; second = m }))
+          let_in o = record { none = sym decided ∙ o; first = in_first; second = in_second }
 
     -- What the walks said: 34, or what they counted.
-    module _ (r : Admission) (w : r ≡ walked (counted (contents a.tables)) (counted (contents b.tables))) where
-      pub lost : r.code ≢ 0 → Admits a b q r
-      lost h = subst (Admits a b q) (sym w) (go _ _ refl refl (λ z. h (ap (λ (x : Admission). x.code) w ∙ z)))
-        where
-          go : (x y : Tally) → x ≡ counted (contents a.tables) → y ≡ counted (contents b.tables) → (walked x y).code ≢ 0 → Admits a b q (walked x y)
-          go Broken y ex ey h = first-lost ex
-          go (Labels k) Broken ex ey h = second-lost k ex ey
-          go (Labels k) (Labels m) ex ey h = absurd (h refl)
+    pub lost : (e : Refusal) → Err e ≡ walked (counted (contents a.tables)) (counted (contents b.tables)) → Admits a b q (Err e)
+    lost e w = go _ _ refl refl w
+      where
+        go : (x y : Result ℕ Unsound) → x ≡ counted (contents a.tables) → y ≡ counted (contents b.tables) → Err e ≡ walked x y → Admits a b q (Err e)
+        go (Err u) y ex ey w = subst (Admits a b q) (sym w) (first-lost u ex)
+        go (Ok k) (Err u) ex ey w = subst (Admits a b q) (sym w) (second-lost k ex u ey)
+        go (Ok k) (Ok m) ex ey w = absurd (cc)
 
-      abbrev Met : Admission → Type 0
-      Met x = (Labels x.first ≡ counted (contents a.tables)) × (Labels x.second ≡ counted (contents b.tables))
+    abbrev Met : Waiting → Type 0
+    Met w = (Ok w.first ≡ counted (contents a.tables)) × (Ok w.second ≡ counted (contents b.tables))
 
-      pub met_all : r.code ≡ 0 → Met r
-      met_all z = subst Met (sym w) (go _ _ refl refl (ap (λ (x : Admission). x.code) (sym w) ∙ z))
-        where
-          go : (x y : Tally) → x ≡ counted (contents a.tables) → y ≡ counted (contents b.tables) → (walked x y).code ≡ 0 → Met (walked x y)
-          go Broken y ex ey z = absurd (omega arith)
-          go (Labels k) Broken ex ey z = absurd (omega arith)
-          go (Labels k) (Labels m) ex ey z = (ex, ey)
+    pub met_all : (v : Waiting) → Ok v ≡ walked (counted (contents a.tables)) (counted (contents b.tables)) → Met v
+    met_all v w = go _ _ refl refl w
+      where
+        go : (x y : Result ℕ Unsound) → x ≡ counted (contents a.tables) → y ≡ counted (contents b.tables) → Ok v ≡ walked x y → Met v
+        go (Err u) y ex ey w = absurd (cc)
+        go (Ok k) (Err u) ex ey w = absurd (cc)
+        go (Ok k) (Ok m) ex ey w = let e : record { first = k; second = m } ≡ v = cc in subst Met e (ex, ey)
+
+-- The rules before the walks, by the tests of lengths that were made.
+pub tried : (first second third : Control) (rows1 rows2 rows : List (List ℕ)) (l1 r1 b1 l2 r2 b2 l r b m m1 x1 m2 x2 x : List ℕ)
+    {f1 f2 f3 : Bool} {n : ℕ}
+    → f1 ≡ lengths_fit first (lengths_of (tables_of first l1 r1 b1 [] []) (length rows1))
+    → f2 ≡ lengths_fit second (lengths_of (tables_of second l2 r2 b2 [] []) (length rows2))
+    → f3 ≡ lengths_fit third (lengths_of (tables_of third l r b m []) (length rows))
+    → n ≡ tests_refusal (control_sound first) (control_sound second) (control_sound third)
+    (every (f1 ∷ f2 ∷ (f3 && ltb (third.slots / 64) (length m)) ∷ []))
+    → n ≡ why (queue_of first (records_of rows1) l1 r1 b1 m1 x1) (queue_of second (records_of rows2) l2 r2 b2 m2 x2)
+    (queue_of third (records_of rows) l r b m x)
+unfolding third_fits
+tried first second third rows1 rows2 rows l1 r1 b1 l2 r2 b2 l r b m m1 x1 m2 x2 x e1 e2 e3 e =
+    let g1 = e1 ∙ fits-is first rows1 l1 r1 b1 [] m1 x1 in
+    let g2 = e2 ∙ fits-is second rows2 l2 r2 b2 [] m2 x2 in
+    let g3 = e3 ∙ fits-is third rows l r b m m x in
+    e ∙ (λ i. tests_refusal (control_sound first) (control_sound second) (control_sound third)
+    (every (g1 i ∷ g2 i ∷ (g3 i && ltb (third.slots / 64) (length m)) ∷ [])))

@@ -1,7 +1,7 @@
 -- Rows filled over scratch, and the labels that scratch leads to.
 use mathlib.Core.{Path.{◌≡◌, refl, sym, ap, subst, ◌∙◌}, Bool.{Bool, true, false, cond}}
 use mathlib.Core.List.{List, [], ◌∷◌, map, reverse_aux}
-use Prim.Native.Nat.{ℕ, zero, suc, ◌+◌, ◌<◌, ◌≤◌}
+use Prim.Native.Nat.{ℕ, zero, suc, ◌+◌, ◌-◌, ◌<◌, ◌≤◌}
 use native.Mathlib.{Decide.dec_le, Omega.arith}
 use lib.{Dec.{eqb, leb}, ListN.{length, get_or, set, drop}, Seq.{ext_get_or, get_or-set_other}}
 use borrow.Author.Tests.{leb-true, lt-ltb, le-ltb}
@@ -11,7 +11,7 @@ use Rattle.model.specs.Walk.{Walk, entries, broken, and_then, along, is_broken, 
 use Rattle.model.proofs.Tests.Truth.{and-true, not_both}
 use Rattle.join_model.specs.Closed.{filled, right_of, label_of, marked_to}
 use Rattle.join_model.proofs.Filling.{filled_length, filled-beyond, filled_at}
-use Rattle.join.specs.Scratch.{trail, rows_down, right_to}
+use Rattle.join.specs.Scratch.{trail, rows_down, right_to, walked_to}
 
 -- Row 0 is not filled.
 filled_none : (f : ℕ → ℕ) (n : ℕ) (l : List ℕ) → get_or (filled f n l) 0 0 ≡ get_or l 0 0
@@ -148,6 +148,9 @@ pub trail_more : (links : List ℕ) (end k x : ℕ) → x ≡ trail links end k 
 trail_more links end k x e =
     let s : suc k ≡ k + 1 = omega arith in
     ap (λ (y : ℕ). (link_of (get_or links y 0)).slot) e ∙ sym (trail-on links end k) ∙ ap (trail links end) s
+
+pub at_row : (links : List ℕ) (end x k : ℕ) → x ≡ trail links end k → x ≡ walked_to links end (k + 1)
+at_row links end x k e = let s : k ≡ k + 1 - 1 = omega arith in e ∙ ap (trail links end) s
 
 -- One label less remains.
 pub drop_more : (l : List ℕ) (k v : ℕ) (rest : List ℕ) → drop k l ≡ v ∷ rest → (v ≡ label_of l (k + 1)) × (drop (k + 1) l ≡ rest)

@@ -1,5 +1,5 @@
 -- Refused, nothing to lay, or laid: what the joining leaves is what the definition says.
-use mathlib.Core.{Path.{◌≡◌, refl, sym, ap, ap₂, subst, ◌∙◌}, Bool.{Bool, true, false, ◌&&◌, cond}, Logic.◌≢◌}
+use mathlib.Core.{Path.{◌≡◌, refl, sym, ap, ap₂, ◌∙◌}, Bool.{true, false, ◌&&◌}, Logic.◌≢◌}
 use mathlib.Core.List.{List, [], ◌∷◌, reverse}
 use Prim.Native.Nat.{ℕ, zero, suc, ◌+◌, ◌-◌, ◌<◌, ◌≤◌}
 use native.Mathlib.Omega.{arith}
@@ -15,7 +15,9 @@ use Rattle.join_model.specs.Closed.{filled, left_of, label_of, marked_to, held, 
 use Rattle.join_model.proofs.{Merged.{interleaved, length_merged}, Filling.filled_at, Laws.tag-room}
 use Rattle.join_model.proofs.Closed.{Rests, same-refusal, accepted, closed_join}
 use Rattle.stock_model.specs.Accounts.{waiting_labels}
-use Rattle.join.specs.{declared.Done.Done, Scratch.{InRows, trail, walked_to, label_via, rows_down, right_to}}
+use Rattle.std.specs.Prelude.{Some, None, Ok}
+use Rattle.model.specs.Outcomes.{Refused}
+use Rattle.join.specs.{Scratch.{InRows, trail, walked_to, label_via, rows_down, right_to}}
 use Rattle.join.specs.Anchored.{anchored, Joins}
 use Rattle.join.proofs.Filled.{Trod, overwritten, linked, names, stays, trod, turned}
 
@@ -89,13 +91,12 @@ module _ (q : Queue) (rests : Rests q) (n : ℕ) (all : n ≡ length (waiting_la
 module _ (a b q : Queue) where
   -- Refused: nothing changes.
   pub refuses : (code : ℕ) → code ≡ closed_refusal a b q → code ≢ 0
-      → Joins a b q (record { code = code; laid = false; control = q.tables.control }) q.tables.lefts q.tables.rights q.tables.labels
-      q.tables.marks
+      → Joins a b q (Refused code) q.tables.lefts q.tables.rights q.tables.labels q.tables.marks
   unfolding laid join
   refuses code e h =
       let why = e ∙ sym (same-refusal a b q) in
       let no = ne_eqb (join_refusal a b q) 0 (λ z. h (why ∙ z)) in
-      record { lays = rw no; kept = λ z. refl; leaves = rw no (ap (λ (n : ℕ). record { code = n; third = q }) why) }
+      record { lays = rw no; leaves = rw no (ap (λ (n : ℕ). record { code = n; third = q }) why) }
 
   module _ (e : closed_refusal a b q ≡ 0) where
     none-refuses : join_refusal a b q ≡ 0
@@ -125,12 +126,11 @@ module _ (a b q : Queue) where
 
       -- Nothing to lay: nothing changes.
       pub nothing : n ≡ 0 → m ≡ 0
-          → Joins a b q (record { code = 0; laid = false; control = q.tables.control }) q.tables.lefts q.tables.rights q.tables.labels
+          → Joins a b q (Ok None) q.tables.lefts q.tables.rights q.tables.labels
           q.tables.marks
       unfolding laid holding
       nothing zn zm = record {
         lays = rw (none-refuses, none);
-        kept = λ z. refl;
         leaves = sym (joined_is ∙ ap (λ (l : List ℕ). record { code = 0; third = holding q l }) (nil (lanes a b) none));
       }
         where
@@ -206,45 +206,19 @@ module _ (a b q : Queue) where
               records = set q.records 0 (with_call (task_at q 0) idle);
             }
 
-        pub lays : Joins a b q (record { code = 0; laid = true; control = c }) lefts rights labels marks
+        pub lays : Joins a b q (Ok (Some c)) lefts rights labels marks
         unfolding laid
         lays = record {
           lays = rw (none-refuses, ne_eqb (length (lanes a b)) 0 (λ z. omega (arith, size)));
-          kept = λ z. absurd (not_both refl z);
           leaves = ap (λ (z : Queue). record { code = 0; third = z }) (laid_as (lanes a b) refl) ∙ sym joined_is;
         }
 
 -- Stored: the rows hold what the joining by value left.
-module _ (a b q : Queue) (d : Done) (lefts rights labels marks : List ℕ) (j : Joins a b q d lefts rights labels marks) where
-  pub stored : d.laid ≡ true → (c : Control) (rs : List Record) → c ≡ d.control → rs ≡ set q.records 0 (with_call (task_at q 0) idle)
-      → ◌≡◌ {A = Joined} (record { code = d.code; third = queue_of c rs lefts rights labels marks q.tables.next }) (join a b q)
-  stored e c rs ec er =
-      (λ i. record {
-        code = d.code;
-        third = queue_of (ec i)
-            ((er ∙ sym (ap (λ (b : Bool). cond b (set q.records 0 (with_call (task_at q 0) idle)) q.records) e)) i)
-            lefts rights labels marks q.tables.next;
-      })
-      ∙ j.leaves
-
-  pub untouched : d.laid ≡ false → ◌≡◌ {A = Joined}
-      (record { code = d.code; third = queue_of q.tables.control q.records lefts rights labels marks q.tables.next }) (join a b q)
-  untouched e =
-      let same = sym (j.kept e) in
-      let no = sym e in
-      (λ i. record {
-        code = d.code;
-        third = queue_of (same i) (cond (no i) (set q.records 0 (with_call (task_at q 0) idle)) q.records) lefts rights labels marks
-            q.tables.next;
-      })
-      ∙ j.leaves
-
-  pub upper : (was now : List ℕ) → now ≡ cond d.laid (set was 0 0) was → now ≡ cond (laid a b q) (set was 0 0) was
-  upper was now e = e ∙ ap (λ (b : Bool). cond b (set was 0 0) was) j.lays
-
--- What holds of three controls holds of the same three.
-pub same_three : (P : Control → Control → Control → Type 0) (a b c a' b' c' : Control) → a ≡ a' → b ≡ b' → c ≡ c' → P a b c → P a' b' c'
-same_three P a b c a' b' c' ea eb ec p = subst (λ (x : Control). P x b' c') ea (subst (λ (y : Control). P a y c') eb (subst (P a b) ec p))
+module _ (a b q : Queue) (lefts rights labels marks : List ℕ) where
+  pub stored : (after : Control) → Joins a b q (Ok (Some after)) lefts rights labels marks
+      → (c : Control) (rs : List Record) → c ≡ after → rs ≡ set q.records 0 (with_call (task_at q 0) idle)
+      → ◌≡◌ {A = Joined} (record { code = 0; third = queue_of c rs lefts rights labels marks q.tables.next }) (join a b q)
+  stored after j c rs ec er = (λ i. record { code = 0; third = queue_of (ec i) (er i) lefts rights labels marks q.tables.next }) ∙ j.leaves
 
 -- Not both are none.
 pub one_left : (n m : ℕ) → eqb n 0 && eqb m 0 ≡ false → 1 ≤ n + m

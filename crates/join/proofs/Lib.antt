@@ -2,5 +2,4 @@
 pub mod Tested
 pub mod Admitting
 pub mod Filled
-pub mod Going
 pub mod Joining

@@ -1,13 +1,13 @@
 -- The tests of 47 that are loops: one entry more, or one that fails.
-use mathlib.Core.{Path.{◌≡◌, refl, sym, ap, ◌∙◌}, Bool.{Bool, true, false, ◌&&◌, not}, List.{List, [], ◌∷◌}, Logic.◌≢◌}
-use Prim.Native.Nat.{ℕ, zero, suc, ◌+◌, ◌-◌, ◌<◌, ◌≤◌}
-use native.Mathlib.{Numerals.add-one, Omega.arith}
+use mathlib.Core.{Path.{◌≡◌, refl, sym, ap, ◌∙◌}, Bool.{Bool, true, false, ◌&&◌, not}, List.{List, [], ◌∷◌, map}, Logic.◌≢◌}
+use Prim.Native.Nat.{ℕ, zero, suc, ◌+◌, ◌-◌, ◌<◌, ◌≤◌, min}
+use native.Mathlib.{Nat.{min-eq_left, min-eq_right}, Numerals.add-one, Omega.arith}
 use lib.{Bits.{bit_or, or_zero_l, or_add_and, and_le_r}, Dec.{eqb, ltb}, ListN.{length, get_or, get_or-eq_default}}
+use Rattle.std.proofs.lemmas.List.{map-id}
 use borrow.Author.Tests.{ne_eqb, eqb-true, eqb-false, ltb-true, ltb-false}
 use Rattle.model.specs.{declared.Record.Record, Tables.unused, Lists.{every, count}}
 use Rattle.model.proofs.Tests.Truth.{split, not_both}
 use Rattle.join_model.{specs.Join.blank, proofs.Fresh.none_pass}
-use Rattle.join.specs.Stages.{least}
 
 -- Seven tests, made one after the other.
 pub seven : (a b c d e f g : Bool) → (((((a && b) && c) && d) && e) && f) && g ≡ every (a ∷ b ∷ c ∷ d ∷ e ∷ f ∷ g ∷ [])
@@ -17,9 +17,6 @@ seven true true false d e f g = refl
 seven true true true false e f g = refl
 seven true true true true false f g = refl
 seven true true true true true f g = refl
-
-pub least_le : (n m : ℕ) → least n m ≤ m
-least_le n m = split (ltb n m) (λ e. rw e (let h = ltb-true n m e in omega arith)) (λ e. rw e (omega arith))
 
 -- Two words have no bit set between them where both are zero.
 or-none : (a b : ℕ) → eqb (bit_or a b) 0 ≡ eqb a 0 && eqb b 0
@@ -32,25 +29,29 @@ pub blank-more : (l : List ℕ) (i any : ℕ) → eqb any 0 ≡ blank i l → eq
 blank-more l i any e =
     or-none any (get_or l i 0) ∙ ap (λ (b : Bool). b && eqb (get_or l i 0) 0) e ∙ ap (λ (n : ℕ). blank n l) (sym (add-one i))
 
+-- Words and labels are numbers already.
+pub as_numbers : (b : Bool) (n : ℕ) (l : List ℕ) → b ≡ blank n (map (λ x. x) l) → b ≡ blank n l
+as_numbers b n l e = e ∙ ap (blank n) (map-id l)
+
 -- Beyond the end of a table all is zero.
-blank-past : (l : List ℕ) (k : ℕ) → blank (length l + k) l ≡ blank (length l) l
-blank-past l zero = let e : length l + 0 ≡ length l = omega arith in ap (λ (n : ℕ). blank n l) e
-blank-past l (suc k) =
-    let e : length l + suc k ≡ suc (length l + k) = omega arith in
-    ap (λ (n : ℕ). blank n l) e
-    ∙ ap (λ (x : ℕ). blank (length l + k) l && eqb x 0) (get_or-eq_default l 0 (omega arith))
-    ∙ and_yes (blank (length l + k) l)
-    ∙ blank-past l k
+blank-past : (l : List ℕ) (n k : ℕ) → length l ≤ n → blank (n + k) l ≡ blank n l
+blank-past l n zero h = let e : n + 0 ≡ n = omega arith in ap (λ (m : ℕ). blank m l) e
+blank-past l n (suc k) h =
+    let e : n + suc k ≡ suc (n + k) = omega arith in
+    ap (λ (m : ℕ). blank m l) e
+    ∙ ap (λ (x : ℕ). blank (n + k) l && eqb x 0) (get_or-eq_default l 0 (omega arith))
+    ∙ and_yes (blank (n + k) l)
+    ∙ blank-past l n k h
   where
     and_yes : (b : Bool) → b && true ≡ b
     and_yes true = refl
     and_yes false = refl
 
-pub blank-least : (l : List ℕ) (n : ℕ) → blank (least n (length l)) l ≡ blank n l
-blank-least l n = split (ltb n (length l)) (λ e. rw e) (λ e. rw e (past (ltb-false n (length l) e)))
-  where
-    past : length l ≤ n → blank (length l) l ≡ blank n l
-    past h = let e : length l + (n - length l) ≡ n = omega arith in sym (blank-past l (n - length l)) ∙ ap (λ (k : ℕ). blank k l) e
+pub blank-min : (l : List ℕ) (n : ℕ) → blank (min (length l) n) l ≡ blank n l
+blank-min l n = split (ltb n (length l))
+    (λ e. let h = ltb-true n (length l) e in let k : n ≤ length l = omega arith in rw min-eq_right)
+    (λ e. let h = ltb-false n (length l) e in let k : length l + (n - length l) ≡ n = omega arith in
+    rw min-eq_left (sym (blank-past l (length l) (n - length l) (omega arith)) ∙ ap (λ (m : ℕ). blank m l) k))
 
 abbrev pub busy_in : List Record → ℕ → ℕ
 busy_in rs n = count (λ t. not (eqb (get_or rs t unused).call.place 0)) n

@@ -2,3 +2,4 @@ pub mod Stages
 pub mod Admits
 pub mod Scratch
 pub mod Anchored
+pub mod Numbers

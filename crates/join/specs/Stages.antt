@@ -1,12 +1,8 @@
 -- The rules of the joining by stages, over tests already made.
-use mathlib.Core.{Bool.{Bool, not, cond}, List.{[], ◌∷◌}}
+use mathlib.Core.{Bool.{Bool, not}, List.{[], ◌∷◌}}
 use Rattle.std.specs.Prelude.{ℕ, ltb, leb}
 use Rattle.model.specs.{declared.Control.Control, Refusals.{rule, first}, Lists.every}
 use Rattle.sound.specs.declared.Lengths.{Lengths}
-
--- The smaller of two numbers.
-abbrev pub least : ℕ → ℕ → ℕ
-least n m = cond (ltb n m) n m
 
 -- Which tables of a source are long enough, by their lengths.
 unfoldable pub lengths_fit : Control → Lengths → Bool

@@ -9,15 +9,15 @@ ghost use Rattle.join_model.specs.{Join.{at_rest, fresh}, Closed.late_for};
 ghost use Rattle.join.specs.{Stages.{lengths_fit, tests_refusal, later_refusal}, Admits.{walked, Admits}};
 
 use crate::rest;
-use model::Control;
+use model::{Control, Refusal};
 use sound::Lengths;
-use walk::Tally;
 use word::Anchor;
 
 // The highest Anchor tag that a start is accepted at.
 const LAST_TAG: u64 = 4294967262;
 
 /// Whether tables of these lengths have rows 0 to slots, and a record for each task.
+#[tactic(auto, unfolding(crate::specs::Stages::lengths_fit))]
 fn lengths_fit(c: Control, t: Lengths) -> bool
     ensures { result ≡ lengths_fit c t }
 {
@@ -26,16 +26,11 @@ fn lengths_fit(c: Control, t: Lengths) -> bool
 }
 
 /// 34 for the three controls and Anchors, and 12.
+#[tactic(auto, unfolding(crate::specs::Stages::tests_refusal))]
 fn tests_refusal(first: bool, second: bool, third: bool, fits: bool) -> u32
     ensures { result ≡ tests_refusal first second third fits }
 {
-    if !first {
-        return 34;
-    }
-    if !second {
-        return 34;
-    }
-    if !third {
+    if !(first & second & third) {
         return 34;
     }
     if !fits {
@@ -45,6 +40,7 @@ fn tests_refusal(first: bool, second: bool, third: bool, fits: bool) -> u32
 }
 
 /// Whether one of n pushes would find the Anchor tag too high, the first of them finding this one.
+#[tactic(auto, unfolding(join_model::specs::Closed::late_for))]
 fn late(tag: u64, n: u64) -> bool
     requires { n ≤ 1023 }
     ensures { result ≡ late_for tag n }
@@ -62,6 +58,7 @@ fn late(tag: u64, n: u64) -> bool
 }
 
 /// 47, 48 and 33.
+#[tactic(auto, unfolding(crate::specs::Stages::later_refusal))]
 fn later_refusal(rest: bool, slots: u64, tag: u64, first: u64, second: u64) -> u32
     requires { slots ≤ 1023 }
     ensures { result ≡ later_refusal rest (ltb slots (first + second)) (late_for tag (first + second)) }
@@ -130,23 +127,11 @@ fn final_rules(
     later_refusal(a & (b & c), third.slots, anchor.tag, n, m)
 }
 
-/// Whether the joining is admitted, and how many labels wait in each of the two queues.
+/// How many labels wait in each of the two queues.
 #[derive(Clone, Copy)]
-pub struct Admission {
-    /// 0, or the number of a refusal.
-    pub code: u32,
+pub struct Waiting {
     pub first: u64,
     pub second: u64,
-}
-
-fn refused(code: u32) -> Admission
-    ensures { result ≡ record { code = code; first = 0; second = 0 } }
-{
-    Admission {
-        code,
-        first: 0,
-        second: 0,
-    }
 }
 
 /// The two walks: 34 where one of them is broken, else what they count.
@@ -157,27 +142,24 @@ fn walks(
     rights1: &[u64],
     lefts2: &[u64],
     rights2: &[u64],
-) -> Admission
+) -> Result<Waiting, Refusal>
     ensures { (a b c d e f : List ℕ) → result ≡ walked
         (counted (contents (tables_of first lefts1.now rights1.now a b c)))
         (counted (contents (tables_of second lefts2.now rights2.now d e f))) }
 {
-    let one = walk::waiting(first, lefts1, rights1);
-    let two = walk::waiting(second, lefts2, rights2);
-    let Tally::Labels(n) = one else {
-        return refused(34);
+    let Ok(n) = walk::waiting(first, lefts1, rights1) else {
+        return Err(Refusal { number: 34 });
     };
-    let Tally::Labels(m) = two else {
-        return refused(34);
+    let Ok(m) = walk::waiting(second, lefts2, rights2) else {
+        return Err(Refusal { number: 34 });
     };
-    Admission {
-        code: 0,
+    Ok(Waiting {
         first: n,
         second: m,
-    }
+    })
 }
 
-/// All the rules, in order.
+/// All the rules, in order: the number of the first that applies, or what waits.
 pub fn admit(
     first: Control,
     second: Control,
@@ -195,7 +177,7 @@ pub fn admit(
     rights: &[u64],
     labels: &[u32],
     marks: &[u64],
-) -> Admission
+) -> Result<Waiting, Refusal>
     ensures { (marks1 next1 marks2 next2 next : List ℕ) → Admits
         (queue_of first (records_of records1.now) lefts1.now rights1.now labels1.now marks1 next1)
         (queue_of second (records_of records2.now) lefts2.now rights2.now labels2.now marks2 next2)
@@ -232,12 +214,9 @@ pub fn admit(
     let enough = c & (third.slots / 64 < into.marks as u64);
     let why = table_rules(first, second, third, a, b, enough);
     if why != 0 {
-        return refused(why);
+        return Err(Refusal { number: why });
     }
-    let lanes = walks(first, second, lefts1, rights1, lefts2, rights2);
-    if lanes.code != 0 {
-        return lanes;
-    }
+    let waiting = walks(first, second, lefts1, rights1, lefts2, rights2)?;
     let code = final_rules(
         first,
         second,
@@ -249,12 +228,11 @@ pub fn admit(
         rights,
         labels,
         marks,
-        lanes.first,
-        lanes.second,
+        waiting.first,
+        waiting.second,
     );
-    Admission {
-        code,
-        first: lanes.first,
-        second: lanes.second,
+    if code != 0 {
+        return Err(Refusal { number: code });
     }
+    Ok(waiting)
 }

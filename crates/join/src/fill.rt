@@ -13,11 +13,9 @@ fn gather(n: u64, end: u64, links: &[u64], out: &mut [u64])
     requires { InRows links.now end n }
     ensures { out.new ≡ filled (walked_to links.now end) n out.old }
 {
-    let mut k: u64 = 0;
     let mut x = end;
-    while k < n {
-        k += 1;
-        table::put_word(out, k, x);
+    for k in 0..n {
+        table::set(out, k + 1, x);
         x = walk::follow(links, x);
     }
 }
@@ -37,21 +35,7 @@ fn next(first: u64, second: u64, x: u32, y: u32) -> Going
     ensures by_index { (f g : ℕ → ℕ) → f first ≡ x → g second ≡ y
         → merge (rows_down f first) (rows_down g second) ≡ result.label ∷ merge (rows_down f result.first) (rows_down g result.second) }
 {
-    if first == 0 {
-        return Going {
-            label: y,
-            first,
-            second: second - 1,
-        };
-    }
-    if second == 0 {
-        return Going {
-            label: x,
-            first: first - 1,
-            second,
-        };
-    }
-    if x <= y {
+    if second == 0 || (first != 0 && x <= y) {
         return Going {
             label: x,
             first: first - 1,
@@ -82,16 +66,13 @@ fn merge(
         (rows_down (label_via labels2.now slots2.now) m)))
         (n + m) labels.old }
 {
-    let all = n + m;
     let mut first = n;
     let mut second = m;
-    let mut k: u64 = 0;
-    while k < all {
-        let x = table::label_at(labels1, table::word_at(slots1, first));
-        let y = table::label_at(labels2, table::word_at(slots2, second));
+    for k in 0..n + m {
+        let x = table::get_or(labels1, table::get_or(slots1, first, 0), 0);
+        let y = table::get_or(labels2, table::get_or(slots2, second, 0), 0);
         let t = next(first, second, x, y);
-        k += 1;
-        table::put_label(labels, k, t.label);
+        table::set(labels, k + 1, t.label);
         first = t.first;
         second = t.second;
     }
@@ -120,15 +101,11 @@ fn link_up(n: u64, lefts: &mut [u64], rights: &mut [u64], marks: &mut [u64])
     ensures rights_after { rights.new ≡ filled (right_to n) n rights.old }
     ensures marks_after { marks.new ≡ marked_to n marks.old }
 {
-    let mut k: u64 = 0;
-    while k < n {
+    for k in 0..n {
         let x = k + 1;
-        let left = link_word(0, k);
-        let right = right_word(n, x);
-        table::put_word(lefts, x, left);
-        table::put_word(rights, x, right);
+        table::set(lefts, x, link_word(0, k));
+        table::set(rights, x, right_word(n, x));
         table::set_mark(marks, x);
-        k = x;
     }
 }
 

@@ -9,24 +9,15 @@ ghost use Rattle.layout.specs.Rows.{records_of, uppers_of, queue_in};
 ghost use Rattle.join_model.specs.Join.{Joined, join, laid};
 ghost use Rattle.join.specs.Anchored.{anchored, Joins};
 
-use model::Control;
+use model::{Control, Refusal};
 use word::Anchor;
 
 mod admit;
 mod fill;
 mod rest;
 
-/// What the joining answers, and what it leaves of control.
-#[derive(Clone, Copy)]
-pub struct Done {
-    /// 0, or the number of a refusal.
-    pub code: u32,
-    /// Some labels were laid into the third, whose record 0 then has no call and its own count.
-    pub laid: bool,
-    pub control: Control,
-}
-
 /// Control after n pushes.
+#[tactic(auto, unfolding(crate::specs::Anchored::anchored))]
 fn anchored(c: Control, n: u64) -> Control
     requires { (1 ≤ n) × ((n ≤ 1023) × ((anchor_of c.anchor).tag ≤ 4294967264)) }
     ensures { result ≡ anchored c n }
@@ -43,7 +34,9 @@ fn anchored(c: Control, n: u64) -> Control
     after
 }
 
-/// Joins the first queue and the second in the third; all of it but the third's records. Marks of the sources and next tables are not lent.
+/// Joins the first queue and the second in the third; all of it but the third's records. It gives control as it is then, where some labels
+/// were laid into the third, whose record 0 then has no call and its own count; or the number of a refusal. Marks of the sources and
+/// next tables are not lent.
 fn join(
     first: Control,
     second: Control,
@@ -61,41 +54,35 @@ fn join(
     rights: &mut [u64],
     labels: &mut [u32],
     marks: &mut [u64],
-) -> Done
+) -> Result<Option<Control>, Refusal>
     ensures { (marks1 next1 marks2 next2 next : List ℕ) → Joins
         (queue_of first (records_of records1.now) lefts1.now rights1.now labels1.now marks1 next1)
         (queue_of second (records_of records2.now) lefts2.now rights2.now labels2.now marks2 next2)
         (queue_of third (records_of records.now) lefts.old rights.old labels.old marks.old next)
         result lefts.new rights.new labels.new marks.new }
 {
-    let r = admit::admit(
+    let waiting = admit::admit(
         first, second, third, records1, records2, records, lefts1, rights1, labels1, lefts2,
         rights2, labels2, lefts, rights, labels, marks,
-    );
-    if r.code != 0 {
-        return Done {
-            code: r.code,
-            laid: false,
-            control: third,
-        };
-    }
-    if (r.first == 0) & (r.second == 0) {
-        return Done {
-            code: 0,
-            laid: false,
-            control: third,
-        };
+    )?;
+    if (waiting.first == 0) & (waiting.second == 0) {
+        return Ok(None);
     }
     fill::fill(
-        first, second, r.first, r.second, lefts1, labels1, lefts2, labels2, lefts, rights, labels,
+        first,
+        second,
+        waiting.first,
+        waiting.second,
+        lefts1,
+        labels1,
+        lefts2,
+        labels2,
+        lefts,
+        rights,
+        labels,
         marks,
     );
-    let control = anchored(third, r.first + r.second);
-    Done {
-        code: 0,
-        laid: true,
-        control,
-    }
+    Ok(Some(anchored(third, waiting.first + waiting.second)))
 }
 
 /// The same for C and Rust, with controls and records lent as rows of words; whatever the sources' marks and any next table, which are not lent.
@@ -133,21 +120,19 @@ pub extern "C" fn zc_join(
         (queue_in third.old records.old lefts.old rights.old labels.old marks.old next))
         (set (uppers_of records.old) 0 0) (uppers_of records.old) }
 {
-    let row1 = *first;
-    let row2 = *second;
-    let row = *third;
-    let a = layout::control_of(row1);
-    let b = layout::control_of(row2);
-    let c = layout::control_of(row);
-    let d = join(
+    let a = layout::control_of(*first);
+    let b = layout::control_of(*second);
+    let c = layout::control_of(*third);
+    match join(
         a, b, c, records1, records2, records, lefts1, rights1, labels1, lefts2, rights2, labels2,
         lefts, rights, labels, marks,
-    );
-    if d.laid {
-        let control = d.control;
-        *third = layout::control_row(control);
-        let idle = layout::call_of([0; layout::RECORD_WORDS]);
-        layout::put_call(records, 0, idle);
+    ) {
+        Ok(Some(control)) => {
+            *third = layout::control_row(control);
+            layout::put_call(records, 0, layout::call_of([0; layout::RECORD_WORDS]));
+            0
+        }
+        Ok(None) => 0,
+        Err(refusal) => refusal.number,
     }
-    d.code
 }

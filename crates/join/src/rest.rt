@@ -1,62 +1,37 @@
 // Whether a queue is at rest, and whether the third is fresh: what 47 asks.
-ghost use mathlib.Core.{Path.◌≡◌, Bool.not, List.List};
+ghost use mathlib.Core.{Path.◌≡◌, Bool.not, List.{List, map}};
 ghost use Rattle.std.specs.Prelude.{ℕ, ◌≤◌};
 ghost use lib.{Dec.eqb, ListN.get_or};
 ghost use Rattle.model.specs.{Tables.{queue_of, unused}, Lists.count};
 ghost use Rattle.layout.specs.Rows.{records_of};
 ghost use Rattle.join_model.specs.Join.{at_rest, blank, fresh};
-ghost use Rattle.join.specs.Stages.{least};
+ghost use Rattle.join.specs.Numbers.{AreNumbers};
 
 use model::Control;
+use std::ops::BitOr;
 use word::Anchor;
 
-/// How many entries of a table are looked at, of n: beyond its end all is zero.
-fn least(n: u64, most: usize) -> usize
-    ensures { result ≡ least n most }
+/// The first n entries are zero, and beyond the end of a table all is zero. All are looked at, several at a time.
+fn blank<T: Copy + Default + BitOr<Output = T> + Into<u64>>(t: &[T], n: u64) -> bool
+    requires { (x y : T) → T.can_bitor x y }
+    ensures { (number : T → ℕ) → AreNumbers T.is_default T.bitor_gives T.converts number → result ≡ blank n (map number t.now) }
 {
-    let k = n as usize;
-    if k < most { k } else { most }
-}
-
-/// The first n entries are zero. All are looked at, several at a time.
-fn blank(t: &[u64], n: u64) -> bool
-    ensures { result ≡ blank n t.now }
-{
-    let end = least(n, t.len());
-    let mut any = 0;
-    let mut i: usize = 0;
-    while i < end {
-        any = any | t[i];
-        i += 1;
+    let k = t.len().min(n as usize);
+    let mut any = T::default();
+    for x in &t[..k] {
+        any = any | *x;
     }
-    any == 0
-}
-
-/// The same of labels.
-fn blank_labels(t: &[u32], n: u64) -> bool
-    ensures { result ≡ blank n t.now }
-{
-    let end = least(n, t.len());
-    let mut any = 0;
-    let mut i: usize = 0;
-    while i < end {
-        any = any | t[i];
-        i += 1;
-    }
-    any == 0
+    any.into() == 0
 }
 
 /// None of the first n tasks is busy.
 fn idle(records: &[[u64; layout::RECORD_WORDS]], n: usize) -> bool
     ensures { result ≡ eqb (count (λ t. not (eqb (get_or (records_of records.now) t unused).call.place 0)) n) 0 }
 {
-    let mut i: usize = 0;
-    while i < n {
-        let r = layout::call_at(records, i);
-        if r.place != 0 {
+    for t in 0..n {
+        if layout::call_at(records, t).place != 0 {
             return false;
         }
-        i += 1;
     }
     true
 }
@@ -90,7 +65,7 @@ pub fn is_fresh(
     let rows = c.slots + 1;
     let left = blank(lefts, rows);
     let right = blank(rights, rows);
-    let label = blank_labels(labels, rows);
+    let label = blank(labels, rows);
     let mark = blank(marks, c.slots / 64 + 1);
     (c.pooled != 1) & ((a.left == 0) & (a.right == 0)) & rest & left & right & label & mark
 }

@@ -5,7 +5,8 @@ use native.Mathlib.Omega.{arith}
 use lib.{Dec.{eqb, leb, ltb}, ListN.get_or}
 use borrow.Author.Tests.{eq-eqb, le-leb}
 use Rattle.word.specs.{declared.Anchor.Anchor, Anchor.{anchor_of, pack_anchor}, Link.{link_of, pack_link}}
-use Rattle.model.specs.declared.{Record.Record, Answer.TheVariants.{Running, Pushed}, Outcome.TheVariants.Moved}
+use Rattle.model.specs.Outcomes.{Moved}
+use Rattle.model.specs.declared.{Record.Record, Answer.TheVariants.{Running, Pushed}}
 use Rattle.model.specs.Tables.{Tables, is_pooled, idle, with_anchor, with_seen, with_neighbour, new_call, counting}
 use Rattle.model.specs.Sound.{from1, anchor_sound, link_sound, control_sound, record_sound, rows_fit}
 use Rattle.model.specs.Places.{side_of, row, link_side, move, reading, at1, at2, at3, new4, at4, at5, at6, at7, at9, at10}

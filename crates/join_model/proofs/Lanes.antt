@@ -5,7 +5,8 @@ use native.Mathlib.Omega.{arith}
 use lib.{Dec.ltb, ListN.{length, get_or}}
 use borrow.Author.Tests.{ne_eqb, ltb-true, ltb-false, lt-ltb}
 use Rattle.word.specs.declared.Anchor.{Anchor}
-use Rattle.model.specs.{declared.Outcome.Outcome, Tables.Queue, History.{Request, run, final}}
+use Rattle.model.specs.Outcomes.{Outcome}
+use Rattle.model.specs.{Tables.Queue, History.{Request, run, final}}
 use Rattle.model.proofs.Tests.Truth.{split, or-false}
 use Rattle.join_model.specs.Join.{anchor_in, push_alone, pushes, outcomes, any_late}
 use Rattle.join_model.specs.Laws.{answers_one, answers_next, answers_more, answers}

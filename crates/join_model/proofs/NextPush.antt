@@ -5,7 +5,8 @@ use native.Mathlib.Omega.{arith}
 use lib.{Dec.{eqb, leb, ltb}, ListN.{length, get_or, replicate, length-set}, Seq.get_or-set_same}
 use borrow.Author.Tests.{eq-eqb, ne_eqb, le-leb, ltb-true, ltb-false}
 use Rattle.word.{specs.{declared.Anchor.Anchor, Anchor.{anchor_of, pack_anchor}, Link.pack_link}, proofs.Laws.unpack_pack}
-use Rattle.model.specs.declared.{Answer.TheVariants.{Running, Pushed}, Outcome.TheVariants.Moved}
+use Rattle.model.specs.Outcomes.{Moved}
+use Rattle.model.specs.declared.Answer.TheVariants.{Running, Pushed}
 use Rattle.model.specs.{declared.Op.TheVariants.{Push, Step}, Sound.{anchor_sound, row_tests, rows_fit}}
 use Rattle.model.specs.{Tables.{Tables, Queue, idle, with_call, task_at, with_anchor}, Places.{set_link, apply}}
 use Rattle.model.proofs.{Tests.{Rules.tests, Truth.and_of}, Unsound.Tests.{anchor-sound, link-sound}}

@@ -5,7 +5,8 @@ use native.Mathlib.Omega.{arith}
 use lib.{Dec.{leb, ltb}, ListN.{length, replicate, length-set}}
 use borrow.Author.Tests.{eq-eqb, le-leb, lt-ltb, leb-true, ltb-false}
 use Rattle.word.{specs.Anchor.{anchor_of, pack_anchor}, proofs.Laws.unpack_pack}
-use Rattle.model.specs.declared.{Answer.TheVariants.{Running, Pushed}, Outcome.TheVariants.{Moved, Refused}}
+use Rattle.model.specs.Outcomes.{Moved, Refused}
+use Rattle.model.specs.declared.Answer.TheVariants.{Running, Pushed}
 use Rattle.model.specs.{declared.Op.TheVariants.{Push, Step}, Refusals.{records_fit, start_refusal}, Lists.every}
 use Rattle.model.specs.Tables.{Tables, Queue, is_pooled, idle, with_call, marked, record_at, task_at, with_anchor, with_taken}
 use Rattle.model.specs.Sound.{anchor_sound, control_tests, control_sound, record_sound, rows_fit}

@@ -2,7 +2,8 @@
 use mathlib.Core.{Path.{◌≡◌, refl, ap, ap₂, ◌∙◌}, List.{List, [], ◌∷◌, ◌++◌}}
 use Prim.Native.Nat.{◌<◌, ◌≤◌}
 use lib.ListN.{length}
-use Rattle.model.specs.{declared.{Record.Record, Outcome.Outcome, Op.TheVariants.Step}, Tables.{Tables, Queue}}
+use Rattle.model.specs.Outcomes.{Outcome}
+use Rattle.model.specs.{declared.{Record.Record, Op.TheVariants.Step}, Tables.{Tables, Queue}}
 use Rattle.model.specs.{Calls.{Done, back, act, step_lent}, History.{Request, run, final}}
 use Rattle.model.proofs.Laws.LentRecord.{with_row, lent_record}
 use Rattle.join_model.specs.Join.{outcomes}

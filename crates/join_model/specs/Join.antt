@@ -1,9 +1,11 @@
 -- The joining of two queues in a third. (Document 02, #113.)
+use Rattle.std.specs.Prelude.{Err, Ok}
 use mathlib.Core.{Bool.{Bool, true, false, ◌&&◌, ◌||◌, not, cond}, List.{List, [], ◌∷◌, ◌++◌, map}}
 use Rattle.std.specs.Prelude.{ℕ, zero, suc, ◌+◌, ◌/◌}
 use lib.{Dec.{ltb, eqb}, ListN.{length, get_or, replicate}}
 use Rattle.word.specs.{declared.Anchor.Anchor, Anchor.anchor_of}
-use Rattle.model.specs.declared.{Outcome.{Outcome, TheVariants.{Refused, Moved}}, Op.TheVariants.{Push, Step}}
+use Rattle.model.specs.Outcomes.{Outcome}
+use Rattle.model.specs.declared.Op.TheVariants.{Push, Step}
 use Rattle.model.specs.{Tables.{Queue, is_pooled}, Sound.control_sound, Report.busy, Sides.is_empty, Lists.every}
 use Rattle.model.specs.{Walk.{contents, is_broken}, Refusals.{Rule, rule, first, records_fit}}
 use Rattle.model.specs.History.{Request, Event, run, final}
@@ -57,8 +59,8 @@ outcomes l = map (λ (e : Event). e.outcome) l
 
 -- 33 if such a push would meet it.
 abbrev pub is_late : Outcome → Bool
-is_late (Refused n) = eqb n 33
-is_late (Moved a) = false
+is_late (Err refusal) = eqb refusal.number 33
+is_late (Ok a) = false
 
 abbrev pub any_late : List Outcome → Bool
 any_late [] = false

@@ -1,8 +1,9 @@
 -- What is promised of the joining, beyond what it answers. (Document 02, #113.)
 use mathlib.Core.{Path.◌≡◌, Logic.◌≢◌, Bool.true, List.{List, [], ◌∷◌, ◌++◌}}
 use Rattle.std.specs.Prelude.{ℕ, suc, ◌+◌, ◌/◌, ◌≤◌, get_or}
-use Rattle.model.specs.declared.{Opening.TheVariants.Opened, Answer.TheVariants.{Running, Pushed}, Entry.Entry}
-use Rattle.model.specs.{declared.Outcome.{Outcome, TheVariants.Moved}, Tables.{Tables, Queue, with_marks, with_next}}
+use Rattle.model.specs.Outcomes.{Moved, Opened, Outcome}
+use Rattle.model.specs.declared.{Answer.TheVariants.{Running, Pushed}, Entry.Entry}
+use Rattle.model.specs.Tables.{Tables, Queue, with_marks, with_next}
 use Rattle.model.specs.{Calls.open_queue, Standing.Standing, Lists.copies, Walk.{contents, entries}}
 use Rattle.model.specs.History.{Request, run, final, ledger, Linearized, NeverUnsound, AfterOpening}
 use Rattle.stock_model.specs.Accounts.{waiting_labels, Accounted, StockSum}

@@ -1,14 +1,16 @@
 -- Room for 65 calls and for an order of 65 numbers is enough: more of either change no verdict.
-use mathlib.Core.{Bool.{Bool, true, false, ◌&&◌, ◌||◌, cond, not}, List.List, Path.{◌≡◌, refl, sym, ap, ◌∙◌}}
+use mathlib.Core.{Bool.{Bool, true, false, ◌&&◌, cond, not}, List.List, Path.{◌≡◌, refl, sym, ap, ◌∙◌}}
 use Prim.Native.Nat.{ℕ, zero, suc, ◌/◌, ◌≤◌}
 use native.Mathlib.Omega.{arith}
 use lib.{Dec.{eqb, leb}, ListN.{length, take}, Seq.{length-take-le, take_all}}
-use borrow.Author.Tests.{leb-false, leb-true, lt-leb, ne_eqb, not-false, not-true}
+use borrow.Author.Tests.{leb-false, leb-true, lt-leb, ne_eqb}
 use Rattle.model.proofs.Tests.Truth.{split}
 use Rattle.audit_model.specs.declared.{Finished.Finished, Verdict.TheVariants.Refused}
 use Rattle.audit_model.specs.{Audit.{accepted, rearranges, verdict}, LentHistory.{calls_from, calls_in}}
 use Rattle.historyfile.specs.{Buffer.held, Reading.Reading}
-use Rattle.judge.specs.{Judging.told, declared.Judged.TheVariants.{Told, Unread}}
+use Rattle.std.specs.Prelude.{Option, Some, None, Ok, Err, is_none, is_some}
+use Rattle.historyfile.specs.declared.words.Fault.{Fault}
+use Rattle.judge.specs.Judging.{told}
 
 count-calls : (i n : ℕ) (ws : List ℕ) → length (calls_from i n ws) ≡ n
 unfolding calls_from
@@ -46,28 +48,20 @@ module _ (m n : ℕ) (h : 455 ≤ m) (k : 65 ≤ n) where
       long cs (take n ks) ks (omega arith) (omega arith))
 
   pub enough : (r : Reading) → told (held m n r) ≡ told r
-  unfolding told
   enough r =
-      ap (λ v. cond (eqb r.place.fault 0 && eqb r.place.column 8) (Told v) (Unread r.place))
+      ap (λ v. cond (is_none r.place.fault && eqb r.place.column 8) (Ok v) (Err r.place))
       (calls-enough r.calls (take n r.order) ∙ order-enough (calls_in r.calls) r.order)
 
--- A reading with a fault or without an order is not judged; any other is.
-neither : (a b : Bool) → not a || not b ≡ not (a && b)
-neither true true = refl
-neither true false = refl
-neither false b = refl
+-- A reading without a fault and with an order is judged, and any other is not.
+no_fault : (f : Option Fault) (b : Bool) → is_some f ≡ not b → is_none f ≡ b
+no_fault None true e = refl
+no_fault None false e = sym e
+no_fault (Some why) true e = sym e
+no_fault (Some why) false e = refl
 
-module _ (r : Reading) where
-  abbrev stops : Bool
-  stops = not (eqb r.place.fault 0) || not (eqb r.place.column 8)
+module _ (r : Reading) (b : Bool) (is : is_some r.place.fault ≡ not b) where
+  pub judged_so : b && eqb r.place.column 8 ≡ true → Ok (verdict (calls_in r.calls) r.order) ≡ told r
+  judged_so e = rw (no_fault r.place.fault b is, e)
 
-  test : (b : Bool) → stops ≡ b → not (eqb r.place.fault 0 && eqb r.place.column 8) ≡ b
-  test b e = sym (neither (eqb r.place.fault 0) (eqb r.place.column 8)) ∙ e
-
-  pub unread : stops ≡ true → Unread r.place ≡ told r
-  unfolding told
-  unread e = rw (not-true (eqb r.place.fault 0 && eqb r.place.column 8) (test true e))
-
-  pub judged_so : stops ≡ false → Told (verdict (calls_in r.calls) r.order) ≡ told r
-  unfolding told
-  judged_so e = rw (not-false (eqb r.place.fault 0 && eqb r.place.column 8) (test false e))
+  pub unread : b && eqb r.place.column 8 ≡ false → Err r.place ≡ told r
+  unread e = rw (no_fault r.place.fault b is, e)

@@ -1,7 +1,8 @@
 -- Control and records as rows of words, in the order of their fields.
 use mathlib.Core.{Bool.Bool, List.{List, [], ◌∷◌}}
 use Rattle.std.specs.Prelude.{ℕ, ◌/◌, ◌%◌, ◌^◌, get_or, set}
-use Rattle.model.specs.{declared.{Control.Control, Call.Call, Record.Record, Outcome.Outcome}, Ends.{is_moved, ends_call}}
+use Rattle.model.specs.Outcomes.{Outcome}
+use Rattle.model.specs.{declared.{Control.Control, Call.Call, Record.Record}, Ends.{is_moved, ends_call}}
 use Rattle.model.specs.declared.Op.{Op, TheVariants.{Push, Pop, PushPooled, Step}}
 use Rattle.model.specs.Tables.{Queue, queue_of, unused, with_call}
 

@@ -123,30 +123,14 @@ pub fn trim(rows: &mut [[u64; RECORD_WORDS]], task: usize)
     }
 }
 
-/// The first n of at least as many records zeroed, their counts too.
-fn zero_first(rows: &mut [[u64; RECORD_WORDS]], n: usize)
-    requires { n ≤ length rows.old }
-    ensures rows_after { records_of rows.new ≡ zeroed n unused (records_of rows.old) }
-    ensures rows_after_2 { uppers_of rows.new ≡ zeroed n 0 (uppers_of rows.old) }
-{
-    let mut i: usize = 0;
-    while i < n {
-        rows[i] = [0; RECORD_WORDS];
-        i += 1;
-    }
-}
-
-fn least(a: usize, b: usize) -> usize
-    ensures { result ≡ min a b }
-{
-    if a < b { a } else { b }
-}
-
 /// The first n records zeroed, their counts too; all records where there are fewer.
 pub fn clear(rows: &mut [[u64; RECORD_WORDS]], n: usize)
     ensures rows_after { records_of rows.new ≡ zeroed (min n (length rows.old)) unused (records_of rows.old) }
     ensures rows_after_2 { uppers_of rows.new ≡ zeroed (min n (length rows.old)) 0 (uppers_of rows.old) }
 {
-    let most = least(n, rows.len());
-    zero_first(rows, most);
+    let most = n.min(rows.len());
+    // Not by the slice's `fill`: its contract does not say that each row it stores has as many words.
+    for i in 0..most {
+        rows[i] = [0; RECORD_WORDS];
+    }
 }

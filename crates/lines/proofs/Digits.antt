@@ -42,7 +42,6 @@ decimal-room (suc m) k n h = go (ltb n 10) refl (decimal-room m k (n / 10) (omeg
         )
 
 pub decimal_pair : (m n : ℕ) → 100 ≤ n → decimal_in (2 + m) n ≡ decimal_in m (n / 100) ++ last_two n
-unfolding last_two
 decimal_pair m n h =
     let p : 2 + m - 1 ≡ 1 + m = omega arith in
     let q : 1 + m - 1 ≡ m = omega arith in
@@ -62,7 +61,6 @@ decimal_four m n h =
     rw (p, decimal_pair (2 + m) n (omega arith), decimal_pair m (n / 100) (omega arith), d)
 
 pub decimal_two : (n : ℕ) → 10 ≤ n → decimal_in 1 n ≡ last_two n
-unfolding last_two
 decimal_two n h = rw (decimal-more 1 n (λ z. omega (arith, z)) h, decimal-none 0 (n / 10) refl)
 
 -- Groups of four.

@@ -1,11 +1,14 @@
 -- The last eight hexadecimal digits of a word as the lanes of another, and their glyphs in their place.
-use Prim.Native.Nat.{ℕ, ◌+◌, ◌*◌, ◌/◌, ◌%◌, ◌^◌, ◌<◌, ◌≤◌}
+use Prim.Native.Nat.{ℕ, zero, suc, ◌+◌, ◌*◌, ◌/◌, ◌%◌, ◌^◌, ◌<◌, ◌≤◌}
 use mathlib.Core.{Path.{◌≡◌, refl, ap, ap₂, ◌∙◌}, Bool.{Bool, true, false}, List.{List, [], ◌∷◌, ◌++◌, map}}
 use native.Mathlib.{Nat.mul-div_cancel, Omega.arith}
-use lib.{ListN.length, Arith.{digits_div, digits_mod}, Dec.{ltb, lit<, lit≤}}
+use lib.{ListN.{get_or}, Dec.{ltb, lit<, lit≤}}
 use lib.Bits.{bit_and, and_block, and_high, and_le_r}
 use borrow.Author.Tests.{ltb-true, ltb-false}
-use Rattle.lines.specs.Line.{glyph, hex_four, hex, bytes_of}
+use Rattle.std.specs.Int.{to_le_bytes}
+use Rattle.std.proofs.lemmas.Nat.{le_bytes_8}
+use Rattle.std.proofs.Common.{w64}
+use Rattle.lines.specs.Line.{glyph, hex_four, hex}
 use Rattle.lines.proofs.Lanes.{word, all, Below, cut, cut_below, and_cut}
 
 -- the words that the code makes one of the other
@@ -85,31 +88,21 @@ below : (ds : List ℕ) → Below 16 ds → Below 256 (map glyph ds)
 below [] b = tt
 below (d ∷ ds) b = (omega (arith, glyph-sum d b.0, b.0), below ds b.1)
 
-bytes_word : (xs : List ℕ) → Below 256 xs → bytes_of (length xs) (word 8 xs) ≡ xs
-unfolding bytes_of
-bytes_word [] b = refl
-bytes_word (x ∷ xs) b = rw (digits_mod (word 8 xs) b.0, digits_div (word 8 xs) b.0, bytes_word xs b.1)
+bounded : (xs : List ℕ) → Below 256 xs → (i : ℕ) → get_or xs i 0 < 256
+bounded [] b i = lit< tt
+bounded (x ∷ xs) b zero = b.0
+bounded (x ∷ xs) b (suc i) = bounded xs b.1 i
 
-pub glyphs_are : (w : ℕ) → bytes_of 8 (glyphs (digits (bytes (halves w)))) ≡ hex_four (w / 2 ^ 16) ++ hex_four w
+pub glyphs_are : (w : ℕ) → to_le_bytes w64 (glyphs (digits (bytes (halves w)))) ≡ hex_four (w / 2 ^ 16) ++ hex_four w
 glyphs_are w =
     let ds : List ℕ = digits_of w in
     let b : Below 16 ds = cut_below 4 16 (cut 8 (halves_of w)) (lit≤ tt) in
     let e : bit_and (word 8 ds + 0x0606060606060606) 0x1010101010101010 / 16 ≡ word 8 (map letter ds) =
     ap (λ (x : ℕ). x / 16) (letters ds b) ∙ mul-div_cancel (word 8 (map letter ds)) (lit< tt) in
     let g : glyphs (word 8 ds) ≡ word 8 (map glyph ds) = ap (λ (x : ℕ). word 8 ds + 0x3030303030303030 + x * 39) e ∙ sums ds b in
-    ap (bytes_of 8) (ap glyphs (digits_are w) ∙ g) ∙ bytes_word (map glyph ds) (below ds b) ∙ ap₂ ◌++◌ (hex-cut (w / 2 ^ 16)) (hex-cut w)
-
--- as they are stored
-pub bytes_four : (g : ℕ) → bytes_of 4 g ≡ g % 256 ∷ g / 256 % 256 ∷ g / 65536 % 256 ∷ g / 16777216 % 256 ∷ []
-unfolding bytes_of
-bytes_four g =
-    let a : g / 256 / 256 ≡ g / 65536 = omega arith in
-    let b : g / 65536 / 256 ≡ g / 16777216 = omega arith in
-    rw (a, b)
-
-pub bytes_eight : (g : ℕ) → bytes_of 8 g ≡ bytes_of 4 g ++ bytes_of 4 (g / 4294967296)
-unfolding bytes_of
-bytes_eight g = let e : g / 256 / 256 / 256 / 256 ≡ g / 4294967296 = omega arith in rw e
+    ap (to_le_bytes w64) (ap glyphs (digits_are w) ∙ g)
+    ∙ le_bytes_8 (map glyph ds) (word 8 (map glyph ds)) refl (bounded (map glyph ds) (below ds b)) (omega arith)
+    ∙ ap₂ ◌++◌ (hex-cut (w / 2 ^ 16)) (hex-cut w)
 
 pub hex_halves : (w : ℕ) → hex w ≡ (hex_four (w / 2 ^ 32 / 2 ^ 16) ++ hex_four (w / 2 ^ 32)) ++ (hex_four (w / 2 ^ 16) ++ hex_four w)
 unfolding hex hex_four

@@ -1,12 +1,13 @@
 -- No line is longer than `room`, whatever its numbers.
+use Rattle.std.specs.Prelude.{Err, Ok}
 use Prim.Native.Nat.{ℕ, zero, suc, ◌+◌, ◌/◌, ◌%◌, ◌≤◌}
 use mathlib.Core.{Bool.{Bool, true, false, cond}, List.{List, [], ◌∷◌, ◌++◌}}
 use native.Mathlib.Omega.{arith}
 use lib.{Dec.ltb, ListN.{length, length-append}}
 use Rattle.model.specs.Refusals.{malformed}
-use Rattle.model.specs.declared.{Entry.Entry, Outcome.{Outcome, TheVariants.{Refused, Moved}}, Opening.Opening, Op.Op}
+use Rattle.model.specs.Outcomes.{Opening, Outcome}
+use Rattle.model.specs.declared.{Entry.Entry, Op.Op}
 use Rattle.model.specs.declared.Answer.{Answer, TheVariants.{Running, Pushed, Empty, Popped, NoFreeSlot}}
-use Rattle.model.specs.declared.Opening.TheVariants as opening
 use Rattle.model.specs.declared.Op.TheVariants as op
 use Rattle.lines.specs.{Ascii.ascii, declared.Line.{Line, TheVariants.{Open, Act, File}}}
 use Rattle.lines.specs.Line.{decimal_in, decimal, hex_four, hex, numbered, no, call_word, call_of, entry_of, answer_of}
@@ -51,7 +52,6 @@ entry_most e =
     (numbered_most (ascii "got:") e.slot) (numbered_most (ascii ":") e.label)
 
 answer_most : (a : Answer) → length (answer_of a) ≤ 45
-unfolding answer_of
 answer_most (Running p) = omega (arith, numbered_most (ascii "at") p)
 answer_most Pushed = omega arith
 answer_most Empty = omega arith
@@ -65,14 +65,12 @@ moved_most (op.PushPooled side label) a = omega arith
 moved_most op.Step a = answer_most a
 
 outcome_most : (o : Op) (x : Outcome) → length (outcome_of o x) ≤ 45
-unfolding outcome_of
-outcome_most o (Refused n) = omega (arith, numbered_most no n)
-outcome_most o (Moved a) = moved_most o a
+outcome_most o (Err refusal) = omega (arith, numbered_most no refusal.number)
+outcome_most o (Ok a) = moved_most o a
 
 opening_most : (o : Opening) → length (opening_of o) ≤ 22
-unfolding opening_of
-opening_most (opening.Refused n) = numbered_most no n
-opening_most opening.Opened = omega arith
+opening_most (Err refusal) = numbered_most no refusal.number
+opening_most (Ok u) = omega arith
 
 told_most : (l : Line) → length (told l) ≤ 72
 unfolding told

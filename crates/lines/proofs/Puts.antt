@@ -1,8 +1,10 @@
 -- Writes one after the other are one write of both texts.
-use Prim.Native.Nat.{ℕ, suc, ◌+◌, ◌≤◌, ◌<◌}
-use native.Mathlib.{Numerals.add-one, Nat.add-zero, Omega.arith}
+use Prim.Native.Nat.{ℕ, suc, ◌+◌, ◌≤◌}
+use native.Mathlib.{Nat.add-zero, Omega.arith}
 use mathlib.Core.{Path.{◌≡◌, refl, sym, ap, ◌∙◌}, List.{List, [], ◌∷◌, ◌++◌}}
-use lib.{ListN.{length, set, get_or, take, length-append}, Seq.{sets, take-suc, length-take-le}}
+use lib.{ListN.{length, set, take, drop, length-append}, Seq.{sets, sets-eq, take_all}}
+use borrow.Rule.Slice.PartMut.{put_mid}
+use Rattle.std.proofs.lemmas.Slice.{put_mid-paste}
 use borrow.Author.Tests.{le-leb}
 use Rattle.lines.specs.Line.{Put, given_room}
 
@@ -19,11 +21,14 @@ put-more {a} {b} {c} {i} {m} {r} {xs} {ys} p q =
       stored = q.stored ∙ rw (p.stored, p.stop) (sets_append a i xs ys);
     }
 
-pub copy_more : (l : List ℕ) (at : ℕ) (s : List ℕ) (i : ℕ) → i < length s
-    → set (sets l at (take i s)) (at + i) (get_or s i 0) ≡ sets l at (take (i + 1) s)
-copy_more l at s i h =
-    let n : length (take i s) ≡ i = length-take-le i s (omega arith) in
-    rw (add-one, take-suc s i 0 h, ← sets_append l at (take i s) (get_or s i 0 ∷ []), n)
+-- Bytes copied into the part of a list from position at on.
+pub put-copied : (l s part : List ℕ) (at k : ℕ) → part ≡ s → k ≡ length s → at + length s ≤ length l
+    → Put l (put_mid at k l part) at (at + length s) s
+put-copied l s part at k e n h = record {
+  stop = refl;
+  stored = put_mid-paste at k l part s (length s) e (sym n) refl
+      ∙ ap (λ (x : List ℕ). take at l ++ x ++ drop (at + length s) l) (take_all (length s) s (omega arith)) ∙ sym (sets-eq s l at h);
+}
 
 pub put-none : (l : List ℕ) (at : ℕ) → Put l l at at []
 put-none l at = record { stop = sym (add-zero at); stored = refl }
@@ -32,3 +37,6 @@ put-none l at = record { stop = sym (add-zero at); stored = refl }
 pub put-fits : {a b : List ℕ} {i r : ℕ} {xs : List ℕ} (most : ℕ) → Put a b i r (given_room most (length a) i xs) → i + most ≤ length a → Put a b i r xs
 unfolding given_room
 put-fits {a} {b} {i} {r} {xs} most p h = rw (le-leb (i + most) (length a) h) at p
+
+-- What `put_*` and `write_*` are proved by.
+pub ruleset puts = (put-more, put-none, put-fits)

@@ -1,11 +1,12 @@
 -- A line of the trace, byte by byte. (Document 01: The run file and its trace.)
+use Rattle.std.specs.Prelude.{Err, Ok}
 use Rattle.std.specs.Prelude.{ℕ, zero, suc, ◌+◌, ◌/◌, ◌%◌, ◌^◌}
 use mathlib.Core.{Path.◌≡◌, Bool.cond, List.{List, [], ◌∷◌, ◌++◌}}
 use lib.{ListN.length, Seq.sets, Dec.{ltb, leb}}
-use Rattle.model.specs.declared.{Entry.Entry, Outcome.{Outcome, TheVariants.{Refused, Moved}}, Opening.Opening, Op.Op}
+use Rattle.model.specs.Outcomes.{Opening, Outcome}
+use Rattle.model.specs.declared.{Entry.Entry, Op.Op}
 use Rattle.model.specs.declared.Answer.{Answer, TheVariants.{Running, Pushed, Empty, Popped, NoFreeSlot}}
 use Rattle.model.specs.Refusals.{malformed}
-use Rattle.model.specs.declared.Opening.TheVariants as opening
 use Rattle.model.specs.declared.Op.TheVariants as op
 use Rattle.lines.specs.{Ascii.ascii, declared.Line.{Line, TheVariants.{Open, Act, File}}}
 
@@ -18,7 +19,7 @@ unfoldable pub decimal : ℕ → List ℕ
 decimal n = decimal_in 19 n
 
 -- The last two decimal digits.
-unfoldable pub last_two : ℕ → List ℕ
+abbrev pub last_two : ℕ → List ℕ
 last_two n = (48 + n / 10 % 10) ∷ (48 + n % 10) ∷ []
 
 -- The last four hexadecimal digits of n, and sixteen of a word.
@@ -30,11 +31,6 @@ hex_four n = glyph (n / 2 ^ 12 % 16) ∷ glyph (n / 2 ^ 8 % 16) ∷ glyph (n / 2
 
 unfoldable pub hex : ℕ → List ℕ
 hex w = hex_four (w / 2 ^ 48) ++ hex_four (w / 2 ^ 32) ++ hex_four (w / 2 ^ 16) ++ hex_four w
-
--- The n low bytes of a word, the lowest first.
-unfoldable pub bytes_of : ℕ → ℕ → List ℕ
-bytes_of zero g = []
-bytes_of (suc n) g = g % 256 ∷ bytes_of n (g / 256)
 
 -- Words, and a word with a number behind it.
 unfoldable pub numbered : List ℕ → ℕ → List ℕ
@@ -61,7 +57,7 @@ unfoldable pub entry_of : Entry → List ℕ
 entry_of e = numbered (ascii "got:") e.slot ++ numbered (ascii ":") e.label
 
 -- Running at a place, or the answer.
-unfoldable pub answer_of : Answer → List ℕ
+abbrev pub answer_of : Answer → List ℕ
 answer_of (Running p) = numbered (ascii "at") p
 answer_of Pushed = ascii "pushed"
 answer_of Empty = ascii "empty"
@@ -76,13 +72,13 @@ moved (op.PushPooled side label) a = ok
 moved op.Step a = answer_of a
 
 -- A refusal has its number.
-unfoldable pub outcome_of : Op → Outcome → List ℕ
-outcome_of op (Refused n) = numbered no n
-outcome_of op (Moved a) = moved op a
+abbrev pub outcome_of : Op → Outcome → List ℕ
+outcome_of op (Err refusal) = numbered no refusal.number
+outcome_of op (Ok a) = moved op a
 
-unfoldable pub opening_of : Opening → List ℕ
-opening_of (opening.Refused n) = numbered no n
-opening_of opening.Opened = ok
+abbrev pub opening_of : Opening → List ℕ
+opening_of (Err refusal) = numbered no refusal.number
+opening_of (Ok u) = ok
 
 -- Task, call and answer. An opening and a malformed place have no task.
 unfoldable pub told : Line → List ℕ

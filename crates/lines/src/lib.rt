@@ -1,5 +1,5 @@
 //! A line of the trace, a text or a number, written into a lent buffer where it has room.
-#![tactic(auto)]
+#![tactic(auto, using(crate::proofs::Puts::puts), unfolding(crate::specs::Line::given_room))]
 
 mod number;
 
@@ -33,9 +33,8 @@ fn put_word(out: &mut [u8], at: usize, op: Op) -> usize
     ensures upper_bound { result ≤ at + 6 }
 {
     match op {
-        Op::Push { .. } => number::put_text(out, at, b" push "),
+        Op::Push { .. } | Op::PushPooled { .. } => number::put_text(out, at, b" push "),
         Op::Pop { .. } => number::put_text(out, at, b" pop "),
-        Op::PushPooled { .. } => number::put_text(out, at, b" push "),
         Op::Step => number::put_text(out, at, b" step "),
     }
 }
@@ -78,10 +77,8 @@ fn put_moved(out: &mut [u8], at: usize, op: Op, answer: Answer) -> usize
     ensures upper_bound { result ≤ at + 45 }
 {
     match op {
-        Op::Push { .. } => number::put_text(out, at, b"ok"),
-        Op::Pop { .. } => number::put_text(out, at, b"ok"),
-        Op::PushPooled { .. } => number::put_text(out, at, b"ok"),
         Op::Step => put_answer(out, at, answer),
+        _ => number::put_text(out, at, b"ok"),
     }
 }
 
@@ -91,8 +88,8 @@ fn put_outcome(out: &mut [u8], at: usize, op: Op, outcome: Outcome) -> usize
     ensures upper_bound { result ≤ at + 45 }
 {
     match outcome {
-        Outcome::Refused(n) => number::put_numbered(out, at, b"no", n as u64),
-        Outcome::Moved(a) => put_moved(out, at, op, a),
+        Err(refusal) => number::put_numbered(out, at, b"no", u64::from(refusal.number)),
+        Ok(a) => put_moved(out, at, op, a),
     }
 }
 
@@ -102,8 +99,8 @@ fn put_opening(out: &mut [u8], at: usize, opening: Opening) -> usize
     ensures upper_bound { result ≤ at + 22 }
 {
     match opening {
-        Opening::Refused(n) => number::put_numbered(out, at, b"no", n as u64),
-        Opening::Opened => number::put_text(out, at, b"ok"),
+        Err(refusal) => number::put_numbered(out, at, b"no", u64::from(refusal.number)),
+        Ok(()) => number::put_text(out, at, b"ok"),
     }
 }
 
@@ -170,10 +167,7 @@ fn put_header(out: &mut [u8], at: usize) -> usize
 fn has_room(len: usize, at: usize, n: usize) -> bool
     ensures { result ≡ leb (at + n) len }
 {
-    if len < n {
-        return false;
-    }
-    at <= len - n
+    n <= len && at <= len - n
 }
 
 /// Whether a buffer of `len` bytes has room for a line at a position.

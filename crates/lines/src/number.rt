@@ -1,9 +1,12 @@
 // Words and numbers, decimal and hexadecimal, written into a lent buffer. The caller sees to it that there is room for them.
 ghost use mathlib.Core.{Path.◌≡◌, List.{[], ◌∷◌, ◌++◌}};
 ghost use Rattle.std.specs.Prelude.{◌+◌, ◌*◌, ◌/◌, ◌%◌, ◌^◌, ◌≤◌, ◌<◌, length};
-ghost use Rattle.lines.specs.Line.{decimal_in, decimal, last_two, hex_four, hex, bytes_of, numbered, Put};
+ghost use Rattle.lines.specs.Line.{decimal_in, decimal, last_two, hex_four, hex, numbered, Put};
 
-/// One byte. Each of these functions answers the position after what it wrote.
+// Each of these functions, and those of lib.rt, takes the buffer and a position, and answers the position after what it wrote.
+// They are no methods of a writer that holds both, since the program `trace` is slower by it: for 200,000 steps it takes
+// 85,125,905 instructions, and 75,682,124 by these.
+/// One byte.
 pub fn put(out: &mut [u8], at: usize, b: u8) -> usize
     requires { at < length out.old }
     ensures { Put out.old out.new at result (b ∷ []) }
@@ -16,12 +19,9 @@ pub fn put_text(out: &mut [u8], at: usize, s: &[u8]) -> usize
     requires { at + length s.now ≤ length out.old }
     ensures { Put out.old out.new at result s.now }
 {
-    let mut i = 0;
-    while i < s.len() {
-        out[at + i] = s[i];
-        i += 1;
-    }
-    at + i
+    let end = at + s.len();
+    out[at..end].copy_from_slice(s);
+    end
 }
 
 // The last digit of n, and the last two.
@@ -41,7 +41,8 @@ fn put_pair(out: &mut [u8], at: usize, n: u64) -> usize
     put_last(out, a, n)
 }
 
-// The decimal digits of n: at most two, at most four, at most eight.
+// The decimal digits of n: at most two, at most four, at most eight. These three and `put_digits` are not one function that
+// recurs by pairs, since that is slower: a trace of 200,000 steps takes 88,945,637 instructions by it, and 75,682,124 by these.
 fn put_few(out: &mut [u8], at: usize, n: u64) -> usize
     requires { at + 2 ≤ length out.old }
     ensures put { Put out.old out.new at result (decimal_in 1 n) }
@@ -103,16 +104,16 @@ pub fn put_decimal(out: &mut [u8], at: usize, n: u64) -> usize
     if n < 10 {
         return put_last(out, at, n);
     }
-    // The common case apart: no recursion.
+    // The common case apart, by no recursion: with `put_digits` alone that trace takes 82,015,772 instructions.
     if n < 100000000 {
         return put_eight(out, at, n);
     }
     put_digits(out, at, n, 4)
 }
 
-// The glyphs of the last eight hexadecimal digits of w as the bytes of a word, the first lowest.
-fn glyphs(w: u64) -> u64
-    ensures { bytes_of 8 result ≡ hex_four (w / 2 ^ 16) ++ hex_four w }
+// The glyphs of the last eight hexadecimal digits of w.
+fn glyphs(w: u64) -> [u8; 8]
+    ensures { result ≡ hex_four (w / 2 ^ 16) ++ hex_four w }
 {
     // The halves change places, then the bytes of each half, then the digits of each byte.
     let a = w % 65536 * 4294967296 + w / 65536 % 65536;
@@ -120,30 +121,8 @@ fn glyphs(w: u64) -> u64
     let d = (b & 0x000f000f000f000f) * 256 + (b & 0x00f000f000f000f0) / 16;
     // 1 for each digit from 10 on, which adding 6 carries to 16.
     let letters = ((d + 0x0606060606060606) & 0x1010101010101010) / 16;
-    d + 0x3030303030303030 + letters * 39
-}
-
-// The four low bytes of g, the lowest first.
-fn put_bytes(out: &mut [u8], at: usize, g: u64) -> usize
-    requires { at + 4 ≤ length out.old }
-    ensures put { Put out.old out.new at result (bytes_of 4 g) }
-    ensures value { result ≡ at + 4 }
-{
-    let a = put(out, at, (g % 256) as u8);
-    let b = put(out, a, (g / 256 % 256) as u8);
-    let c = put(out, b, (g / 65536 % 256) as u8);
-    put(out, c, (g / 16777216 % 256) as u8)
-}
-
-// The last eight digits of w; the compiler makes one store of them.
-fn put_glyphs(out: &mut [u8], at: usize, w: u64) -> usize
-    requires { at + 8 ≤ length out.old }
-    ensures put { Put out.old out.new at result (hex_four (w / 2 ^ 16) ++ hex_four w) }
-    ensures value { result ≡ at + 8 }
-{
-    let g = glyphs(w);
-    let a = put_bytes(out, at, g);
-    put_bytes(out, a, g / 4294967296)
+    let lanes = d + 0x3030303030303030 + letters * 39;
+    lanes.to_le_bytes()
 }
 
 pub fn put_hex(out: &mut [u8], at: usize, w: u64) -> usize
@@ -151,8 +130,8 @@ pub fn put_hex(out: &mut [u8], at: usize, w: u64) -> usize
     ensures put { Put out.old out.new at result (hex w) }
     ensures value { result ≡ at + 16 }
 {
-    let a = put_glyphs(out, at, w >> 32);
-    put_glyphs(out, a, w)
+    let a = put_text(out, at, &glyphs(w >> 32));
+    put_text(out, a, &glyphs(w))
 }
 
 // A word and a number.

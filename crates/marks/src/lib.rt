@@ -20,12 +20,6 @@ fn masked(w: u64, k: u64, slots: u64) -> u64
     m
 }
 
-fn least(a: usize, b: usize) -> usize
-    ensures { result ≡ min a b }
-{
-    if a < b { a } else { b }
-}
-
 /// The marks set for all slots before the last slot's word, when n are set below slot 64. Words past the end hold no mark:
 /// the loop ends where they begin, and asks of no word whether it is there. (That neither end of a mask lies in these
 /// words the compiler finds by itself.)
@@ -33,7 +27,7 @@ fn before_last(n: u64, slots: u64, marks: &[u64]) -> u64
     requires { (64 ≤ slots) × (n ≡ taken_slots 63 marks.now) }
     ensures { result ≡ taken_slots (64 * (slots / 64) - 1) marks.now }
 {
-    let end = least((slots / 64) as usize, marks.len());
+    let end = marks.len().min((slots / 64) as usize);
     let mut sum = n;
     for k in 1..end {
         sum += u64::count_ones(masked(marks[k], k as u64, slots)) as u64;
@@ -45,11 +39,11 @@ fn before_last(n: u64, slots: u64, marks: &[u64]) -> u64
 pub fn taken(slots: u64, marks: &[u64]) -> u64
     ensures { result ≡ taken_slots slots marks.now }
 {
-    let first = u64::count_ones(masked(table::word_at(marks, 0), 0, slots)) as u64;
+    let first = u64::count_ones(masked(table::get_or(marks, 0, 0), 0, slots)) as u64;
     if slots < 64 {
         return first;
     }
     let n = before_last(first, slots, marks);
     let last = slots / 64;
-    n + u64::count_ones(masked(table::word_at(marks, last), last, slots)) as u64
+    n + u64::count_ones(masked(table::get_or(marks, last, 0), last, slots)) as u64
 }

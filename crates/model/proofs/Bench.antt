@@ -4,7 +4,7 @@ use Prim.Native.Nat.{ℕ}
 use lib.ListN.{get_or, replicate}
 use Rattle.word.specs.Anchor.{pack_anchor}
 use Rattle.model.specs.{declared.Answer.TheVariants.{Running, Pushed, Empty, Popped}, Places.{at11, move}}
-use Rattle.model.specs.declared.Outcome.{Outcome, TheVariants.{Refused, Moved}}
+use Rattle.model.specs.Outcomes.{Moved, Outcome, Refused}
 use Rattle.model.specs.{declared.Op.TheVariants.{Push, Pop, Step}, Tables.{Queue, queue_of, unopened, unused}}
 use Rattle.model.specs.Sound.{anchor_sound, link_sound, control_sound, record_sound, rows_fit}
 use Rattle.model.specs.Places.{side_of, row, link_side, reading, at1, at2, at3, new4, at4, at5, at6, at7, at9, at10}

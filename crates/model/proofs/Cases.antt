@@ -1,11 +1,13 @@
 -- Cases worked beside those of `Bench`: each refusal of an opening and of a start, what a step may not touch, which changes count as failed, walks that
 -- lead astray, what a report tells and leaves out, the number of each outcome, and a task stepped until it answers. Each line holds by computing
 -- the meanings.
+use Rattle.std.specs.Prelude.{Ok}
 use mathlib.Core.{Path.{◌≡◌, refl}, Bool.{true, false}, List.{List, [], ◌∷◌, ◌++◌, map}}
 use Prim.Native.Nat.{ℕ}
 use lib.ListN.{replicate}
 use Rattle.model.specs.declared.{Call.Call, Reply.Reply, Answer.TheVariants.{Pushed, Empty, NoFreeSlot}}
-use Rattle.model.specs.declared.{Outcome.TheVariants.{Refused, Moved}, Op.TheVariants.PushPooled}
+use Rattle.model.specs.Outcomes.{Moved, Opened, Refused}
+use Rattle.model.specs.declared.{Op.TheVariants.PushPooled}
 use Rattle.model.specs.Tables.{Tables, Queue, tables_of, queue_of, unopened, opened_control, with_words, new_call}
 use Rattle.model.specs.Tables.{with_seen, with_neighbour, with_link, with_marks, counting, unused, started}
 use Rattle.model.specs.{Sound.{anchor_sound, link_sound, control_sound, record_sound, rows_fit}, Lists.{count, listed}}
@@ -17,8 +19,6 @@ use Rattle.model.specs.Calls.{opened, open_as, open_queue, open_pooled, push_sta
 use Rattle.model.specs.{Calls.{step, act_on, act, opening_code, reply_of}, Solo.{solo_run, solo_steps}}
 use Rattle.model.specs.Walk.{Walk, entries, broken, along, contents}
 use Rattle.model.specs.Report.{busy, waiting, taken_slots, tell, report, report_code, retry_counts}
-use Rattle.model.specs.declared.Opening.TheVariants as opening
-use Rattle.model.specs.declared.Reported.TheVariants as reported
 use Rattle.model.proofs.Bench.{zeros, fresh, push, pop, steps, outcomes, at, got, one, two}
 
 -- Tables for 16 tasks and 1,023 slots.
@@ -124,7 +124,7 @@ astray = record { tables = links stable spare 0 0; records = counting (started 1
 
 pub record Cases : Type 0 where
   -- 2 tasks and 3 slots open
-  pub opens : (open_queue zeros 2 3 0).outcome ≡ opening.Opened
+  pub opens : (open_queue zeros 2 3 0).outcome ≡ Opened
   -- 1 to 16 tasks, 1 to 1,023 slots, and tables long enough; 10 before 11 before 12
   pub largest_opens : open_refusal false largest 16 1023 ≡ 0
   pub smallest_opens : open_refusal false zeros 1 1 ≡ 0
@@ -189,20 +189,20 @@ pub record Cases : Type 0 where
   pub both_wait : contents two.tables ≡ entries (record { slot = 1; label = 700 } ∷ record { slot = 2; label = 800 } ∷ [])
   -- the report of calls half done: both are busy, one label waits, and with the slots of the two calls three are taken
   pub tells : report halfway
-      ≡ reported.Told (record { anchor = record { tag = 4; status = 0; left = 2; right = 2 }; busy = 2; waiting = 1; taken = 3 })
+      ≡ Ok (record { anchor = record { tag = 4; status = 0; left = 2; right = 2 }; busy = 2; waiting = 1; taken = 3 })
   -- the failed change of the race is its task's
   pub retries-told : retry_counts raced ≡ 0 ∷ 1 ∷ replicate 14 0
   -- a refused report
-  pub report_short : report (record { tables = two.tables; records = [] }) ≡ reported.Refused 12
+  pub report_short : report (record { tables = two.tables; records = [] }) ≡ Refused 12
   -- a report counts no record beyond the tasks and no mark but those of slots 1 to slots
   pub no_more-told : report crowded ≡ report halfway
   pub no_more-counts : retry_counts crowded ≡ replicate 16 0
   -- the number and values of each outcome, of openings and of reports
   pub numbers : map reply_of (at 7 ∷ Moved Pushed ∷ Moved Empty ∷ got 2 800 ∷ Moved NoFreeSlot ∷ Refused 34 ∷ [])
       ≡ reply 1 0 7 ∷ reply 2 0 0 ∷ reply 3 0 0 ∷ reply 4 800 2 ∷ reply 5 0 0 ∷ reply 34 0 0 ∷ []
-  pub opening_numbers : map opening_code (opening.Opened ∷ opening.Refused 11 ∷ []) ≡ 0 ∷ 11 ∷ []
+  pub opening_numbers : map opening_code (Opened ∷ Refused 11 ∷ []) ≡ 0 ∷ 11 ∷ []
   pub report_numbers : report_code (report two) ≡ 0
-  pub report-refused : report_code (reported.Refused 34) ≡ 34
+  pub report-refused : report_code (Refused 34) ≡ 34
   -- retries stay at 4,294,967,295 once there
   pub ceiling_reached : counted 4294967294 true ≡ 4294967295
   pub ceiling_kept : counted 4294967295 true ≡ 4294967295

@@ -11,7 +11,8 @@ use Rattle.model.specs.History.{AfterOpening, InUse, NoFreeSlotRight, NoFreeSlot
 use Rattle.model.specs.History.{is_taken, a_pop_gives, a_pop_holds, pop_gives, pop_holds, a_push_holds, push_holds, waits}
 use Rattle.model.specs.{Walk.entries, Tables.{at_place, Queue, Tables, record_at}}
 use Rattle.model.specs.declared.{Answer.{TheVariants.NoFreeSlot, Answer}, Entry.Entry, Call.Call}
-use Rattle.model.specs.declared.{Op.TheVariants.Step, Outcome.TheVariants.Moved}
+use Rattle.model.specs.Outcomes.{Moved}
+use Rattle.model.specs.declared.{Op.TheVariants.Step}
 use Rattle.model.proofs.Tests.{ByPlace.by_place, Rules.{◌and◌, passes}, Truth.{and_of, by_test, decide_eq}}
 use Rattle.model.proofs.{Lists.{In.In, Slots.slots}, Places.NoFreeSlot.{Holds, Used, no_free_slot_lem}}
 use Rattle.model.proofs.{Bridge.{Accepted.{Stepping, step-accepted}, Facts.RecordFine}, Ledger.Matched.Matched}

@@ -4,7 +4,8 @@ use Prim.Native.Nat.{ℕ}
 use native.Mathlib.Omega.{arith}
 use lib.Dec.{eqb}
 use borrow.Author.Tests.{eqb-true}
-use Rattle.model.specs.{declared.Opening.TheVariants.{Opened, Refused}, Tables.Queue, Refusals.open_refusal}
+use Rattle.model.specs.Outcomes.{Opened, Refused}
+use Rattle.model.specs.{Tables.Queue, Refusals.open_refusal}
 use Rattle.model.specs.{Calls.{open_as, opened}, History.{AfterOpeningAs, Request}}
 use Rattle.model.proofs.Tests.Truth.{split}
 

@@ -1,4 +1,5 @@
 -- A task stepped until it answers is a list of its steps; from an opening on it is never refused 34.
+use Rattle.std.specs.Prelude.{Err, Ok}
 use mathlib.Core.{Bool.{Bool, ◌&&◌, ◌||◌, cond, false, true}, List.{List, [], ◌∷◌}, Logic.◌≢◌}
 use mathlib.Core.Path.{◌≡◌, ◌∙◌, ap, refl, sym}
 use Prim.Native.Nat.{suc, zero, ℕ}
@@ -11,7 +12,8 @@ use Rattle.model.specs.{Refusals.{among, step_refusal}, Tables.{Queue, record_at
 use Rattle.model.specs.Route.{answer, empty, goes, leave, no_free_slot, onward, pop_route, popped, push_route, pushed}
 use Rattle.model.specs.Solo.{RunNever34, RunsAreSteps, SoloDone, last_told, solo_run, solo_steps, steps_of}
 use Rattle.model.specs.declared.Answer.{TheVariants.{Empty, NoFreeSlot, Popped, Pushed, Running}, Answer}
-use Rattle.model.specs.declared.{Call.Call, Entry.Entry, Outcome.{Outcome, TheVariants.{Moved, Refused}}}
+use Rattle.model.specs.Outcomes.{Moved, Outcome, Refused}
+use Rattle.model.specs.declared.{Call.Call, Entry.Entry}
 use Rattle.model.specs.declared.{Record.Record, Op.TheVariants.Step}
 use Rattle.model.proofs.{Tests.Truth.{and-true, by_test, not_both, or_left}, Bridge.Accepted.step-accepted}
 use Rattle.model.proofs.{Laws.Runs.run-refused, Progress.Reached.{final_reached, open_reached}}
@@ -110,12 +112,12 @@ module _ (q : Queue) (t : ℕ) where
     where
       go : (o : Outcome) → (act q t Step).outcome ≡ o → is_running o ≡ true
           → (act q t Step).outcome ≡ Moved (Running (record_at (act q t Step).queue t).place)
-      go (Refused why) e h = absurd (not_both h refl)
-      go (Moved (Running p)) e h = e ∙ ap (λ (v : ℕ). Moved (Running v)) (sym (stands_at p e))
-      go (Moved Pushed) e h = absurd (not_both h refl)
-      go (Moved Empty) e h = absurd (not_both h refl)
-      go (Moved (Popped x)) e h = absurd (not_both h refl)
-      go (Moved NoFreeSlot) e h = absurd (not_both h refl)
+      go (Err why) e h = absurd (not_both h refl)
+      go (Ok (Running p)) e h = e ∙ ap (λ (v : ℕ). Moved (Running v)) (sym (stands_at p e))
+      go (Ok Pushed) e h = absurd (not_both h refl)
+      go (Ok Empty) e h = absurd (not_both h refl)
+      go (Ok (Popped x)) e h = absurd (not_both h refl)
+      go (Ok NoFreeSlot) e h = absurd (not_both h refl)
 
 -- ---- the steps that a run made, where o is told if it made none
 abbrev Accepted : Event → Type 0
@@ -127,8 +129,8 @@ record Made (o : Outcome) (q : Queue) (t : ℕ) (d : SoloDone) : Type 0 where
   told : d.outcome ≡ last_told o (run q (steps_of t d.steps))
 
 runs_moved : (o : Outcome) → is_running o ≡ true → is_moved o ≡ true
-runs_moved (Refused why) h = h
-runs_moved (Moved a) h = refl
+runs_moved (Err why) h = h
+runs_moved (Ok a) h = refl
 
 made : (n : ℕ) (q : Queue) (t : ℕ) → Made (Moved (Running (record_at q t).place)) q t (solo_steps n q t)
 unfolding solo_steps run final last_told

@@ -5,7 +5,8 @@ use native.Mathlib.Omega.{arith}
 use lib.{Dec.eqb, ListN.{drop, get_or, length}, Seq.get_or-drop}
 use borrow.Author.Tests.{eqb-true}
 use Rattle.model.specs.{Calls.{open_as, opened}, Lists.climb, Refusals.open_refusal, Stack.{PoolStacked, Stacked}}
-use Rattle.model.specs.{Tables.Queue, declared.Opening.TheVariants.{Opened, Refused}}
+use Rattle.model.specs.Outcomes.{Opened, Refused}
+use Rattle.model.specs.{Tables.Queue}
 use Rattle.model.proofs.{Tests.Truth.split, Lists.Range.length_climb}
 use Rattle.model.proofs.Ledger.Opened.{next_end, next_up, next_zero, some_slots}
 

@@ -1,11 +1,11 @@
 -- After any accepted opening and any list: what every call that walks relies on, and so what the report tells.
+use Rattle.std.specs.Prelude.{Ok}
 use mathlib.Core.{Path.{◌∙◌, ◌≡◌, refl}, Bool.Bool, List.{List, [], ◌∷◌}}
 use Prim.Native.Nat.{ℕ}
 use Rattle.model.specs.{declared.Entry.Entry, Tables.Queue, Standing.{Standing, StandsAfterOpening}}
 use Rattle.model.specs.{Refusals.{open_refusal, records_fit, report_refusal}, Calls.{act, opened}}
 use Rattle.model.specs.Report.{busy, report, tell, told, waiting}
 use Rattle.model.specs.History.{Reports, Told, Request, final, ledger, run}
-use Rattle.model.specs.declared.Reported.TheVariants as reported
 use Rattle.model.proofs.{Laws.Sizes.{act-fits, fits, open_fits}, Ledger.Opened.{nobody, open_good, some_slots}}
 use Rattle.model.proofs.{Unsound.Runs.run_safe, Linearizable.linearized, Never34.open_safe}
 use Rattle.model.proofs.Openings.{after-opening}
@@ -34,7 +34,7 @@ report-none : (q : Queue) (d : List Entry) → Standing q d → report_refusal q
 unfolding report_refusal
 report-none q d s = rw (s.control, s.long, s.walk)
 
-report-told : (q : Queue) (d : List Entry) → Standing q d → report q ≡ reported.Told (told q.tables (busy q))
+report-told : (q : Queue) (d : List Entry) → Standing q d → report q ≡ Ok (told q.tables (busy q))
 unfolding report tell
 report-told q d s = rw (report-none q d s)
 

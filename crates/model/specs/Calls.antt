@@ -1,16 +1,17 @@
 -- What every call answers and what each table then holds. (Document 01: Tables, Places, and how a call is refused.)
+use Rattle.std.specs.Prelude.{Err, Ok}
 use mathlib.Core.{Bool.{Bool, true, false, cond}, List.{List, ◌∷◌, ◌++◌}}
 use Rattle.std.specs.Prelude.{ℕ, ◌+◌, ◌/◌}
 use lib.{Dec.eqb, ListN.{get_or, set, drop}}
-use Rattle.model.specs.declared.{Call.Call, Record.Record, Entry.Entry, Opening.Opening, Reply.Reply}
-use Rattle.model.specs.{declared.Outcome.{Outcome, TheVariants.{Refused, Moved}}, Refusals.step_refusal}
+use Rattle.model.specs.Outcomes.{Moved, Opened, Opening, Outcome, Refused}
+use Rattle.model.specs.declared.{Call.Call, Record.Record, Entry.Entry, Reply.Reply}
+use Rattle.model.specs.{Refusals.step_refusal}
 use Rattle.model.specs.{declared.Op.{Op, TheVariants.{Push, Pop, PushPooled, Step}}, Lists.{zeroed, climb}}
 use Rattle.model.specs.declared.Answer.TheVariants.{Running, Pushed, Empty, Popped, NoFreeSlot}
 use Rattle.model.specs.Tables.{Tables, Queue, tables_of, opened_control, unused, counting, with_call, started}
 use Rattle.model.specs.{Tables.{asking, task_at, with_taken}, Places.{row, word_found, Move, move, apply}}
 use Rattle.model.specs.Route.{route, onward, answer, goes, counted}
 use Rattle.model.specs.Refusals.{open_refusal, Lent, among, alone, push_refusal, push_pooled_refusal, pop_refusal}
-use Rattle.model.specs.declared.Opening.TheVariants as opening
 
 -- A next table with all slots stacked, slot 1 on top: row n holds n + 1, rows 0 and slots hold 0; rows beyond are as they were.
 abbrev pub stacked : ℕ → List ℕ → List ℕ
@@ -37,8 +38,8 @@ unfoldable pub open_as : Bool → Queue → ℕ → ℕ → ℕ → OpenDone
 open_as pooled q tasks slots tag =
     let why = open_refusal pooled q tasks slots in
     cond (eqb why 0)
-    (record { queue = opened pooled q tasks slots tag; outcome = opening.Opened })
-    (record { queue = q; outcome = opening.Refused why })
+    (record { queue = opened pooled q tasks slots tag; outcome = Opened })
+    (record { queue = q; outcome = Refused why })
 
 -- The two ways of opening.
 abbrev pub open_queue : Queue → ℕ → ℕ → ℕ → OpenDone
@@ -115,14 +116,14 @@ step_lent q r = step q alone r
 
 -- The number of an opening: 0 carried out, or that of a refusal.
 abbrev pub opening_code : Opening → ℕ
-opening_code opening.Opened = 0
-opening_code (opening.Refused n) = n
+opening_code (Ok u) = 0
+opening_code (Err refusal) = refusal.number
 
 -- The number and values of each outcome.
 abbrev pub reply_of : Outcome → Reply
-reply_of (Refused n) = record { code = n; label = 0; value = 0 }
-reply_of (Moved (Running p)) = record { code = 1; label = 0; value = p }
-reply_of (Moved Pushed) = record { code = 2; label = 0; value = 0 }
-reply_of (Moved Empty) = record { code = 3; label = 0; value = 0 }
-reply_of (Moved (Popped e)) = record { code = 4; label = e.label; value = e.slot }
-reply_of (Moved NoFreeSlot) = record { code = 5; label = 0; value = 0 }
+reply_of (Err refusal) = record { code = refusal.number; label = 0; value = 0 }
+reply_of (Ok (Running p)) = record { code = 1; label = 0; value = p }
+reply_of (Ok Pushed) = record { code = 2; label = 0; value = 0 }
+reply_of (Ok Empty) = record { code = 3; label = 0; value = 0 }
+reply_of (Ok (Popped e)) = record { code = 4; label = e.label; value = e.slot }
+reply_of (Ok NoFreeSlot) = record { code = 5; label = 0; value = 0 }

@@ -1,15 +1,16 @@
 -- Histories: the events of a list of starts and steps, the calls among them, and what is promised of them. (Document 01: The clerk.)
+use Rattle.std.specs.Prelude.{Err, Ok}
 use mathlib.Core.{Path.◌≡◌, Bool.{Bool, true, false, ◌&&◌, ◌||◌, not, cond}, List.{List, [], ◌∷◌}}
 use Rattle.std.specs.Prelude.{ℕ, suc, ◌<◌, ◌≤◌}
 use lib.{Dec.{eqb, leb}, ListN.length}
 use Rattle.word.specs.Anchor.{anchor_of}
-use Rattle.model.specs.declared.{Entry.Entry, Outcome.{Outcome, TheVariants.{Refused, Moved}}, Call.Call}
+use Rattle.model.specs.Outcomes.{Moved, Opened, Outcome, Refused}
+use Rattle.model.specs.declared.{Entry.Entry, Call.Call}
 use Rattle.model.specs.declared.Answer.{Answer, TheVariants.{Running, Pushed, Empty, Popped, NoFreeSlot}}
 use Rattle.model.specs.{declared.{Op.{Op, TheVariants.{Push, Pop, PushPooled, Step}}, Report.Report}, Sides.near}
-use Rattle.model.specs.{declared.Opening.TheVariants.Opened, Tables.{Queue, marked, record_at}, Report.report}
+use Rattle.model.specs.{Tables.{Queue, marked, record_at}, Report.report}
 use Rattle.model.specs.{Calls.{open_as, act}, Walk.{Walk, entries, contents}, Deque.{says_no_free_slot, serve_for}}
 use Rattle.model.specs.{Lists.{every, All}, Kinds.{is_push, is_pop, giving}}
-use Rattle.model.specs.declared.Reported.TheVariants as reported
 
 -- An operation of a task: an element of the list, with any numbers.
 pub record Request : Type 0 where
@@ -144,8 +145,8 @@ accept n e Step a l = attend n e a l.deque l.calls
 
 -- What an event at position n makes of the ledger, by its outcome.
 unfoldable pub note : ℕ → Event → Outcome → Ledger → Ledger
-note n e (Refused why) l = l
-note n e (Moved a) l = accept n e e.op a l
+note n e (Err refusal) l = l
+note n e (Ok a) l = accept n e e.op a l
 
 -- The events from position n on, noted one after another.
 unfoldable pub ledger_from : ℕ → Ledger → List Event → Ledger
@@ -187,7 +188,7 @@ pub record NeverUnsound (q : Queue) (os : List Request) : Type 0 where
 -- A report after them is told, and waiting is the length of the sequential deque's queue.
 pub record Told (q : Queue) (os : List Request) : Type 0 where
   pub tells : Report
-  pub is : report (final q os) ≡ reported.Told tells
+  pub is : report (final q os) ≡ Ok tells
   pub waiting : tells.waiting ≡ length (ledger (run q os)).deque
 
 -- The list follows any accepted opening, named or pooled, on any tables; it may be empty, and may name any numbers.

@@ -1,7 +1,8 @@
 -- Lists in which a step on one lent record takes the place of its task's step. (Document 01: The clerk.)
 use mathlib.Core.{Path.◌≡◌, Logic.◌≢◌, List.{List, [], ◌∷◌, map}}
 use Rattle.std.specs.Prelude.{ℕ, ◌<◌, ◌≤◌, length}
-use Rattle.model.specs.{declared.{Record.Record, Outcome.TheVariants.Refused, Op.TheVariants.Step}, Lists.All}
+use Rattle.model.specs.Outcomes.{Refused}
+use Rattle.model.specs.{declared.{Record.Record, Op.TheVariants.Step}, Lists.All}
 use Rattle.model.specs.{Tables.{Tables, Queue, task_at}, Calls.{Done, back, act, step_lent}}
 use Rattle.model.specs.History.{Request, Event, run, final}
 

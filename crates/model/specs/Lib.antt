@@ -1,5 +1,6 @@
 pub mod Lists
 pub mod Tables
+pub mod Outcomes
 pub mod Sides
 pub mod Kinds
 pub mod Sound

@@ -1,7 +1,9 @@
 -- How many steps may pass before a call takes effect or answers. (Request #108.)
+use Rattle.std.specs.Prelude.{Err, Ok}
 use mathlib.Core.{Bool.{Bool, true, false, ◌||◌, cond}, List.{List, [], ◌∷◌}, Logic.◌≢◌, Path.◌≡◌}
 use Rattle.std.specs.Prelude.{ℕ, zero, suc, ◌+◌, ◌*◌, ◌<◌, ◌≤◌, eqb}
-use Rattle.model.specs.{declared.Outcome.{Outcome, TheVariants.{Refused, Moved}}, Ends.{answer_ends, ends_call}}
+use Rattle.model.specs.Outcomes.{Outcome}
+use Rattle.model.specs.Ends.{answer_ends, ends_call}
 use Rattle.model.specs.{declared.Op.{Op, TheVariants.{Push, Pop, PushPooled, Step}}, Solo.{SoloDone, solo_run}}
 use Rattle.model.specs.Tables.{Queue, is_pooled, record_at}
 use Rattle.model.specs.History.{Request, Event, run, final, is_effect, AfterOpening}
@@ -11,8 +13,8 @@ abbrev pub took_effect_or_answered_by : Event → Op → Outcome → Bool
 took_effect_or_answered_by e (Push side slot label) o = false
 took_effect_or_answered_by e (Pop side) o = false
 took_effect_or_answered_by e (PushPooled side label) o = false
-took_effect_or_answered_by e Step (Refused why) = false
-took_effect_or_answered_by e Step (Moved a) = is_effect e a || answer_ends a
+took_effect_or_answered_by e Step (Err refusal) = false
+took_effect_or_answered_by e Step (Ok a) = is_effect e a || answer_ends a
 
 abbrev pub took_effect_or_answered : Event → Bool
 took_effect_or_answered e = took_effect_or_answered_by e e.op e.outcome
@@ -27,8 +29,8 @@ abbrev pub stepping : Op → Outcome → ℕ
 stepping (Push side slot label) o = 0
 stepping (Pop side) o = 0
 stepping (PushPooled side label) o = 0
-stepping Step (Refused why) = 0
-stepping Step (Moved a) = 1
+stepping Step (Err refusal) = 0
+stepping Step (Ok a) = 1
 
 -- The number of accepted steps among the events.
 unfoldable pub steps : List Event → ℕ

@@ -1,7 +1,8 @@
 -- A task stepped until it answers. (Request #108.)
 use mathlib.Core.{Bool.{cond, true}, List.{List, [], ◌∷◌}, Logic.◌≢◌, Path.◌≡◌}
 use Rattle.std.specs.Prelude.{ℕ, zero, suc, replicate}
-use Rattle.model.specs.declared.{Answer.TheVariants.Running, Outcome.{Outcome, TheVariants.{Moved, Refused}}}
+use Rattle.model.specs.Outcomes.{Moved, Outcome, Refused}
+use Rattle.model.specs.declared.{Answer.TheVariants.Running}
 use Rattle.model.specs.{declared.Op.TheVariants.Step, Tables.{Queue, record_at}, Calls.{Done, act}, Lists.All}
 use Rattle.model.specs.{Ends.{is_moved, is_running}, History.{AfterOpening, Event, Request, final, run}}
 

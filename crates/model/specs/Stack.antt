@@ -1,7 +1,8 @@
 -- The stack of slots that a pooled opening makes. (Document 02, #104.)
 use Rattle.std.specs.Prelude.{◌≡◌, ℕ, ◌+◌, ◌<◌, ◌≤◌, get_or}
 use Rattle.word.specs.Link.{link_of}
-use Rattle.model.specs.{declared.Opening.TheVariants.Opened, Tables.{Tables, Queue}, Calls.open_pooled}
+use Rattle.model.specs.Outcomes.{Opened}
+use Rattle.model.specs.{Tables.{Tables, Queue}, Calls.open_pooled}
 
 -- Slot 1 is on top, with tag 0. Row n holds n + 1, rows 0 and slots hold 0; rows beyond keep their values.
 pub record Stacked (slots : ℕ) (before after : Tables) : Type 0 where

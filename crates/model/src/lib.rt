@@ -10,13 +10,14 @@ pub struct Control {
     pub tasks: u64,
     pub slots: u64,
     pub anchor: u64,
-    /// 0 a named queue, where a push names its slot; 1 a pooled one, where it draws it from the stack.
+    /// 0 a named queue, where a push names its slot; 1 a pooled one, where it draws it from the stack. C lends any number.
     pub pooled: u64,
     /// The stack's head word; 0 in a named queue.
     pub head: u64,
 }
 
-/// Where a task stands in its call; all zero while it has none.
+/// Where a task stands in its call; all zero while it has none. Place, kind and side are numbers and no enums, since C
+/// lends this struct with any numbers in it, and every call is proved for all of them.
 #[repr(C)]
 #[derive(Clone, Copy)]
 pub struct Call {
@@ -68,14 +69,15 @@ pub enum Answer {
     NoFreeSlot,
 }
 
-/// What a start or step answers. A start that is carried out is `Moved` and running, with its first place
-/// next: 1, or 12 where it names no slot.
-#[derive(Clone, Copy)]
-pub enum Outcome {
-    /// With the document's number.
-    Refused(u32),
-    Moved(Answer),
+/// Why a call is refused: the document's number of the first rule that applies.
+#[derive(Clone, Copy, Debug, PartialEq, Eq)]
+pub struct Refusal {
+    pub number: u32,
 }
+
+/// What a start or step answers. A start that is carried out is running, with its first place next: 1, or 12 where
+/// it names no slot.
+pub type Outcome = Result<Answer, Refusal>;
 
 /// What a start or step leaves of control and its task's call, its outcome, and whether a change failed,
 /// which the task's record counts.
@@ -88,11 +90,7 @@ pub struct Transition {
 }
 
 /// What an opening answers.
-#[derive(Clone, Copy)]
-pub enum Opening {
-    Refused(u32),
-    Opened,
-}
+pub type Opening = Result<(), Refusal>;
 
 /// What the report tells.
 #[derive(Clone, Copy)]
@@ -105,11 +103,8 @@ pub struct Report {
     pub taken: u64,
 }
 
-#[derive(Clone, Copy)]
-pub enum Reported {
-    Refused(u32),
-    Told(Report),
-}
+/// The report, or why there is none.
+pub type Reported = Result<Report, Refusal>;
 
 /// One operation of a task.
 #[derive(Clone, Copy)]

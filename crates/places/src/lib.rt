@@ -179,7 +179,7 @@ pub fn at11(c: Control, r: Call, labels: &[u32], marks: &mut [u64]) -> Transitio
     ensures { StepsOnMarks 11 c r labels.now marks.old result labels.now marks.new }
 {
     let end = touched::own_end(r);
-    let label = table::label_at(labels, end);
+    let label = table::get_or(labels, end, 0);
     if touched::is_slot(c.slots, end) {
         table::clear_mark(marks, end);
         return decide::at11(c, r, label);

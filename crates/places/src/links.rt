@@ -9,9 +9,9 @@ pub fn link_at(link: LinkWord, lefts: &[u64], rights: &[u64]) -> u64
     ensures { result ≡ get_or (cond link.right rights.now lefts.now) link.slot 0 }
 {
     if link.right {
-        table::word_at(rights, link.slot)
+        table::get_or(rights, link.slot, 0)
     } else {
-        table::word_at(lefts, link.slot)
+        table::get_or(lefts, link.slot, 0)
     }
 }
 
@@ -21,8 +21,8 @@ pub fn put_link(link: LinkWord, w: u64, lefts: &mut [u64], rights: &mut [u64])
         × (rights.new ≡ cond link.right (set rights.old link.slot w) rights.old) }
 {
     if link.right {
-        table::put_word(rights, link.slot, w);
+        table::set(rights, link.slot, w);
     } else {
-        table::put_word(lefts, link.slot, w);
+        table::set(lefts, link.slot, w);
     }
 }

@@ -20,7 +20,7 @@ pub fn at12(c: Control, r: Call) -> Transition
 pub fn at13(c: Control, r: Call, nexts: &[u64]) -> Transition
     ensures { StepsOnNext 13 c r nexts.now result nexts.now }
 {
-    let n = table::word_at(nexts, touched::top(r));
+    let n = table::get_or(nexts, touched::top(r), 0);
     decide::at13(c, r, n)
 }
 
@@ -31,7 +31,7 @@ pub fn at14(c: Control, r: Call, labels: &mut [u32], marks: &mut [u64]) -> Trans
     let m = decide::at14(c, r);
     if decide::made(m) {
         let top = touched::top(r);
-        table::put_label(labels, top, r.label);
+        table::set(labels, top, r.label);
         table::set_mark(marks, top);
         return m;
     }
@@ -51,7 +51,7 @@ pub fn at16(c: Control, r: Call, nexts: &mut [u64]) -> Transition
     ensures { StepsOnNext 16 c r nexts.old result nexts.new }
 {
     let top = touched::top(r);
-    table::put_word(nexts, r.own, top);
+    table::set(nexts, r.own, top);
     decide::at16(c, r)
 }
 

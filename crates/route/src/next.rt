@@ -1,12 +1,12 @@
 //! The route from place to place: a constant table by place, kind and outcome, the branch that a place takes.
-ghost use mathlib.Core.{Path.◌≡◌, Bool.cond};
-ghost use Rattle.std.specs.Prelude.{eqb};
+ghost use Rattle.std.specs.Prelude.{◌≡◌, eqb};
 ghost use Rattle.model.specs.{Places.reading, Route.route};
 ghost use Rattle.route.specs.Constants.{row_of, branch_of};
 
 use word::Anchor;
 
-// Where a route leads to no place.
+// Where a route leads to no place. These and the branches are numbers and no enums: the clause of `next` is of any place,
+// kind and branch, and that of `decide::step::settles` of any number that a route could lead to.
 pub const LEAVE: u8 = 20;
 
 pub const PUSHED: u8 = 21;
@@ -48,14 +48,7 @@ const READ_STABLE: usize = 2;
 
 const READ_UNSTABLE: usize = 3;
 
-// and so is the one found by a failed change at 2 or 4, behind the branch where the change is done.
-const FOUND_EMPTY: usize = 1;
-
-const FOUND_SINGLE: usize = 2;
-
-const FOUND_STABLE: usize = 3;
-
-const FOUND_UNSTABLE: usize = 4;
+// and so does the one that a failed change at 2 or 4 found, a branch on: 0 is where the change is done.
 
 // The next place by place, kind (a push, then a pop) and branch, 0 where there is none. A failed change goes on as place 1
 // would, so rows 2 and 4 have its reading behind the change done.
@@ -80,8 +73,11 @@ const NEXT: [[[u8; 5]; 2]; 18] = [
     [[0, 0, 0, 0, 0], [POPPED, 15, 0, 0, 0]],
 ];
 
-/// A place's row, all 0 where there is none. Each is taken by a literal: the compiler builds a constant table on the stack
-/// where it is used, and drops it again only where all of its indices are known.
+/// A place's row, all 0 where there is none.
+// Each is taken by a literal. Tried, and slower: `NEXT[place]` behind a test of its length, inlined at each call, takes 235
+// instructions a step where this takes 173 (zc_step, 16 tasks on 3 slots), since the compiler builds a constant table on the
+// stack where it is used, and drops it again only where all of its indices are known.
+#[tactic(auto, unfolding(model::specs::Route::route, model::specs::Route::push_route, model::specs::Route::pop_route))]
 fn row(place: usize) -> [[u8; 5]; 2]
     ensures { result ≡ row_of place }
 {
@@ -115,9 +111,7 @@ pub fn next(place: usize, kind: u64, branch: usize) -> u8
     if 4 < branch {
         return 0;
     }
-    let kinds = row(place);
-    let pushes = kinds[0];
-    let pops = kinds[1];
+    let [pushes, pops] = row(place);
     if kind == 0 {
         pushes[branch]
     } else {
@@ -125,29 +119,23 @@ pub fn next(place: usize, kind: u64, branch: usize) -> u8
     }
 }
 
-/// x if b holds, else y.
-fn either(b: bool, x: usize, y: usize) -> usize
-    ensures { result ≡ cond b x y }
-{
-    if b { x } else { y }
-}
-
 /// Where an Anchor leads that was read at place 1 or, where the change at 2 or 4 failed, found by it: empty, a pop of the
 /// only label, STABLE, unstable.
 pub fn after_reading(place: usize, failed: bool, kind: u64, a: Anchor) -> u8
     ensures { result ≡ route place kind (branch_of failed (reading (eqb kind 1) a)) }
 {
+    let behind = usize::from(failed);
     if a.left == a.right {
         if a.left == 0 {
-            return next(place, kind, either(failed, FOUND_EMPTY, READ_EMPTY));
+            return next(place, kind, READ_EMPTY + behind);
         }
         if kind == 1 {
-            return next(place, kind, either(failed, FOUND_SINGLE, READ_SINGLE));
+            return next(place, kind, READ_SINGLE + behind);
         }
     }
     if a.status == 0 {
-        next(place, kind, either(failed, FOUND_STABLE, READ_STABLE))
+        next(place, kind, READ_STABLE + behind)
     } else {
-        next(place, kind, either(failed, FOUND_UNSTABLE, READ_UNSTABLE))
+        next(place, kind, READ_UNSTABLE + behind)
     }
 }

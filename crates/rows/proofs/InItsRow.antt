@@ -1,7 +1,8 @@
 -- A record moved on in its row: what the parts of the step say comes to what the step of an admitted record means.
 use mathlib.Core.{Path.{◌≡◌, sym, ap, subst, ◌∙◌}, Bool.cond, List.List}
 use Prim.Native.Nat.{ℕ, ◌≤◌}
-use Rattle.model.specs.declared.{Control.Control, Call.Call, Record.Record, Outcome.{Outcome, TheVariants.Refused}}
+use Rattle.model.specs.Outcomes.{Outcome, Refused}
+use Rattle.model.specs.declared.{Control.Control, Call.Call, Record.Record}
 use Rattle.model.specs.{declared.Transition.Transition, Tables.{Tables, is_pooled, tables_of}, Ends.ends_call}
 use Rattle.model.specs.Refusals.{record_refusal}
 use Rattle.table.specs.Lent.{with_tables}

@@ -4,7 +4,8 @@ use Prim.Native.Nat.{ℕ, ◌<◌, ◌≤◌}
 use native.Mathlib.Omega.{arith}
 use lib.{ListN.{length, get_or, set}, Seq.set-get_or}
 use borrow.Author.Tests.{leb-true, ltb-true}
-use Rattle.model.specs.declared.{Control.Control, Record.Record, Outcome.{Outcome, TheVariants.Refused}}
+use Rattle.model.specs.Outcomes.{Outcome, Refused}
+use Rattle.model.specs.declared.{Control.Control, Record.Record}
 use Rattle.model.specs.{declared.Op.TheVariants.Step, Tables.{Tables, Queue, is_pooled, tables_of, task_at, unused}}
 use Rattle.model.specs.{Ends.ends_call, Sound.rows_fit, Refusals.{admission, among}, Calls.{Done, back, act, act_on}}
 use Rattle.sound.specs.{declared.Lengths.Lengths, Lengths.{lengths_of, lengths_fit, among_many}}
@@ -42,9 +43,11 @@ module _ (ws : List ℕ) (rows : List (List ℕ)) (lefts rights labels marks nex
   abbrev pub fault : ℕ
   fault = admission (control_of ws) (rows_fit (is_pooled (control_of ws)) (control_of ws).slots entry) (among queue task)
 
-  pub asked : (c : Control) (why : ℕ) → c ≡ control_of ws → why ≡ admission c (fit c) (among_many c t task) → why ≡ fault
-  asked c why ec e =
+  pub asked : (c : Control) (why : ℕ) (l : Lengths) → c ≡ control_of ws → l ≡ t
+      → why ≡ admission c (lengths_fit (is_pooled c) c.slots l) (among_many c l task) → why ≡ fault
+  asked c why l ec el e =
       e
+      ∙ ap (λ (l : Lengths). admission c (lengths_fit (is_pooled c) c.slots l) (among_many c l task)) el
       ∙ ap (admission c (fit c)) (lent-among c ec)
       ∙ ap (λ (d : Control). admission d (fit d) (among queue task)) ec
       ∙ ap (λ (b : Bool). admission (control_of ws) b (among queue task)) (lengths_fit_lem _ _ entry (length rows))

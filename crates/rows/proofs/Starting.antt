@@ -68,16 +68,17 @@ module _ (ws : List ℕ) (rows : List (List ℕ)) (lefts rights labels marks nex
       outcome = m.outcome;
     }
 
-    pub started : (c : Control) (r : Call) (m : Transition) → c ≡ control_of ws → r ≡ r₀.call
+    pub started : (c : Control) (l : Lengths) (r : Call) (m : Transition) → c ≡ control_of ws → l ≡ t → r ≡ r₀.call
         → ((k : ℕ) → with_tables m lefts rights labels' marks' next k
-        ≡ act_on (tables_of c lefts rights labels marks next) (among_many c t task) (record { call = r; retries = k }) o)
+        ≡ act_on (tables_of c lefts rights labels marks next) (among_many c l task) (record { call = r; retries = k }) o)
         → records_of rows' ≡ cond (is_moved m.outcome) (with_call_at (records_of rows) task m.task) (records_of rows)
         → ◌≡◌ {A = Done} (record { queue = queue_in ws rows' lefts rights labels' marks' next; outcome = m.outcome }) (act queue task o)
     unfolding act
-    started c r m ec er e e2 =
+    started c l r m ec el er e e2 =
         let k = r₀.retries in
         let left : with_tables m lefts rights labels' marks' next k ≡ act_on entry (among queue task) r₀ o =
         e k
+        ∙ ap (λ (l : Lengths). act_on (tables_of c lefts rights labels marks next) (among_many c l task) (record { call = r; retries = k }) o) el
         ∙ ap (λ (p : Lent). act_on (tables_of c lefts rights labels marks next) p (record { call = r; retries = k }) o)
         (lent-among ws rows lefts rights labels marks next task c ec)
         ∙ ap (λ (d : Control). act_on (tables_of d lefts rights labels marks next) (among queue task) (record { call = r; retries = k }) o) ec

@@ -2,7 +2,8 @@
 -- the label's word is zeroed where the call ends, and kept else.
 use mathlib.Core.{Path.◌≡◌, Bool.cond, List.List}
 use Rattle.std.specs.Prelude.{ℕ}
-use Rattle.model.specs.{declared.Outcome.Outcome, Tables.Tables, Ends.ends_call, Calls.Acted}
+use Rattle.model.specs.Outcomes.{Outcome}
+use Rattle.model.specs.{Tables.Tables, Ends.ends_call, Calls.Acted}
 use Rattle.engine.specs.StepAdmitted.{step_admitted}
 use Rattle.layout.specs.Rows.{record_of, upper_of}
 

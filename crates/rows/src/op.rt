@@ -37,14 +37,7 @@ pub fn push(
     let row = *control;
     let c = layout::control_of(row);
     let r = layout::call_at(records, task);
-    let t = Lengths {
-        records: records.len(),
-        lefts: lefts.len(),
-        rights: rights.len(),
-        labels: labels.len(),
-        marks: marks.len(),
-        next: next.len(),
-    };
+    let t = Lengths::of(records.len(), lefts, rights, labels, marks, next);
     let m = start::push_start(c, r, task, side, slot, label, t, labels, marks);
     crate::store_start(records, task, m);
     m.outcome
@@ -77,14 +70,7 @@ pub fn push_pooled(
     let row = *control;
     let c = layout::control_of(row);
     let r = layout::call_at(records, task);
-    let t = Lengths {
-        records: records.len(),
-        lefts: lefts.len(),
-        rights: rights.len(),
-        labels: labels.len(),
-        marks: marks.len(),
-        next: next.len(),
-    };
+    let t = Lengths::of(records.len(), lefts, rights, labels, marks, next);
     let m = start::push_pooled_start(c, r, task, side, label, t);
     crate::store_start(records, task, m);
     m.outcome
@@ -116,14 +102,7 @@ pub fn pop(
     let row = *control;
     let c = layout::control_of(row);
     let r = layout::call_at(records, task);
-    let t = Lengths {
-        records: records.len(),
-        lefts: lefts.len(),
-        rights: rights.len(),
-        labels: labels.len(),
-        marks: marks.len(),
-        next: next.len(),
-    };
+    let t = Lengths::of(records.len(), lefts, rights, labels, marks, next);
     let m = start::pop_start(c, r, task, side, t);
     crate::store_start(records, task, m);
     m.outcome

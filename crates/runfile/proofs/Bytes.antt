@@ -1,57 +1,31 @@
--- Numbers and fields behind a position: what the code finds at a position is what stands at the head of the bytes from there on.
-use Prim.Native.Nat.{ℕ, ◌+◌, ◌-◌, ◌≤◌, ◌<◌}
-use mathlib.Core.{Path.{◌≡◌, ap, ◌∙◌}, Bool.{Bool, true, false}, List.List}
-use native.Mathlib.{Nat.{add-zero, add_assoc}, Omega.arith}
-use lib.{ListN.{length, get_or, drop, length-drop}, Seq.{get_or-drop, drop-drop}}
-use borrow.Author.Tests.{lt-leb, le-leb, lt-ltb, le-ltb}
-use Rattle.runfile.specs.Field.{two_at, four_at, formed, content_of, missing, field_of}
-use Rattle.runfile.specs.declared.Field.TheVariants.{Malformed, Cut, End}
+-- The content that the code takes out is what stands behind the head.
+use Rattle.std.proofs.Common.{ℕ, ◌+◌, ◌-◌, ◌≤◌, List, Ok, length, get_or, drop, take, slice_range, ap, sym, ◌∙◌, arith, length-take-le}
+use mathlib.Core.{Path.◌≡◌, Bool.{Bool, true}}
+use native.Mathlib.Numerals.{unary_clauses}
+use lib.ListN.{length-drop}
+use borrow.Author.Tests.{lt-leb, le-ltb}
+use Rattle.std.proofs.lemmas.List.{take-append-drop, take_rest}
+use Rattle.runfile.specs.Field.{two_at, formed, content_of, field_of}
+use Rattle.runfile.specs.declared.Field.{Field}
+use Rattle.runfile.proofs.Prefix.{same_content}
 
-module _ (s : List ℕ) (at : ℕ) where
-  pub byte_here : get_or (drop at s) 0 0 ≡ get_or s at 0
-  byte_here = get_or-drop at s 0 0 ∙ ap (λ (k : ℕ). get_or s k 0) (add-zero at)
+-- No byte behind a content is read.
+content_taken : (tag len : ℕ) (o : Bool) (d : List ℕ) → formed o tag len ≡ true → len ≤ length d
+    → content_of tag len (take len d) ≡ content_of tag len d
+content_taken tag len o d f h =
+    let l : length (take len d) ≡ len = length-take-le len d h in
+    sym (same_content (take len d) (drop len d) tag len o f (omega arith)) ∙ ap (content_of tag len) (take-append-drop len d)
 
-  pub two_drop : (i : ℕ) → two_at (drop at s) i ≡ two_at s (at + i)
-  unfolding two_at
-  two_drop i = rw (get_or-drop at s i 0, get_or-drop at s (i + 1) 0, add_assoc at i 1)
-
-  pub four_drop : (i : ℕ) → four_at (drop at s) i ≡ four_at s (at + i)
-  unfolding four_at
-  four_drop i = rw (two_drop i, two_drop (i + 2), add_assoc at i 2)
-
-module _ (o : Bool) (s : List ℕ) (at : ℕ) where
-  pub found_end : length s ≤ at → field_of o (drop at s) ≡ missing End
-  unfolding field_of
-  found_end h = rw (length-drop at s, le-leb (length s - at) 0 (omega arith))
-
-  pub found_short : at < length s → length s - at < 3 → field_of o (drop at s) ≡ missing Cut
-  unfolding field_of
-  found_short h k = rw (length-drop at s, lt-leb (length s - at) 0 (omega arith), lt-ltb _ _ k)
-
-  module _ (h : 3 ≤ length s - at) (tag len : ℕ) (t : tag ≡ get_or s at 0) (l : len ≡ two_at s (at + 1)) where
-    pub found-wrong : formed o tag len ≡ false → field_of o (drop at s) ≡ missing Malformed
-    unfolding field_of
-    found-wrong f =
-        rw (length-drop at s, lt-leb (length s - at) 0 (omega arith), le-ltb _ _ h, byte_here s at, two_drop s at 1, ← t, ← l, f)
-
-    pub found-cut : formed o tag len ≡ true → length s - at < 3 + len → field_of o (drop at s) ≡ missing Cut
-    unfolding field_of
-    found-cut f k =
-        rw (length-drop at s, lt-leb (length s - at) 0 (omega arith), le-ltb _ _ h, byte_here s at, two_drop s at 1, ← t, ← l, f, lt-ltb _ _ k)
-
-    pub found-whole : formed o tag len ≡ true → 3 + len ≤ length s - at
-        → field_of o (drop at s) ≡ record { field = content_of tag len (drop (at + 3) s); size = 3 + len }
-    unfolding field_of
-    found-whole f k =
-        rw (
-          length-drop at s,
-          lt-leb (length s - at) 0 (omega arith),
-          le-ltb _ _ h,
-          byte_here s at,
-          two_drop s at 1,
-          ← t,
-          ← l,
-          f,
-          le-ltb _ _ k,
-          drop-drop 3 at s,
-        )
+-- Where c is a content of the length that the head says, a field f made of it is the one that stands there.
+pub whole_found : (o : Bool) (b c : List ℕ) (len : ℕ) (f : Field) → 3 ≤ length b → len ≡ two_at b 1 → formed o (get_or b 0 0) len ≡ true
+    → (let rest = take (length b - 3) (drop 3 b) in (len ≤ length rest) × (c ≡ slice_range rest 0 len))
+    → ((opened : Bool) → formed opened (get_or b 0 0) (length c) ≡ true → f ≡ content_of (get_or b 0 0) (length c) c)
+    → Ok (record { field = f; size = 3 + length c }) ≡ field_of o b
+unfolding field_of
+whole_found o b c len f h e w t r =
+    let d = drop 3 b in
+    let there : len ≤ length d = rw take_rest at t.0 in
+    let same : c ≡ take len d = simp (take_rest, unary_clauses) at t.1 in
+    let n : length c ≡ len = ap length same ∙ length-take-le len d there in
+    let made : f ≡ content_of (get_or b 0 0) len d = r o (rw n w) ∙ rw (n, same) (content_taken (get_or b 0 0) len o d w there) in
+    rw (n, made, lt-leb (length b) 0 (omega arith), le-ltb (length b) 3 h, ← e, w, le-ltb (length b) (3 + len) (omega (arith, length-drop 3 b)))

@@ -1,11 +1,13 @@
 -- The number of a field is its tag.
 use mathlib.Core.{Path.{◌≡◌, refl, sym, subst}, Bool.{Bool, true, false}, List.List}
 use Prim.Native.Nat.{ℕ, ◌+◌}
-use lib.{Dec.{eqb, leb, ltb}, ListN.{drop, get_or, length}}
+use lib.{Dec.{eqb}, ListN.{drop, get_or}}
 use borrow.Author.Tests.{eqb-true}
 use Rattle.model.proofs.Tests.Truth.{not_both, split}
-use Rattle.runfile.specs.declared.Field.TheVariants.{Malformed}
-use Rattle.runfile.specs.Field.{Numbered, content_of, field_number, field_of, formed, two_at}
+use Rattle.std.specs.Prelude.{Result, Ok}
+use Rattle.runfile.specs.declared.{Found.Found, NoField.{NoField, TheVariants.{Malformed}}}
+use Rattle.runfile.specs.Field.{Numbered, content_of, fault_number, field_number, field_of, formed, two_at}
+use Rattle.runfile.proofs.Prefix.{Seen, seen, ended, cut, wrong, whole}
 
 -- No other tag is well formed.
 unknown : (opened : Bool) (tag len : ℕ) → eqb tag 1 ≡ false → eqb tag 2 ≡ false → eqb tag 3 ≡ false → eqb tag 4 ≡ false
@@ -30,16 +32,18 @@ module _ (opened : Bool) (tag len : ℕ) (b : List ℕ) where
       (λ f. absurd (not_both h (unknown opened tag len a b' c d e f))))))))
 
 pub numbered : Numbered
-unfolding field_of
-numbered opened b whole =
-    let tag = get_or b 0 0 in
-    let len = two_at b 1 in
-    split (leb (length b) 0) (λ e. absurd (whole (rw e refl)))
-    (λ e. split (ltb (length b) 3) (λ f. absurd (whole (rw (e, f) refl)))
-    (λ f. split (formed opened tag len)
-    (λ g. split (ltb (length b) (3 + len)) (λ h. absurd (whole (rw (e, f, g, h) refl))) (λ h. rw (e, f, g, h) (tagged opened tag len (drop 3 b) g)))
-    (λ g. absurd (whole (rw (e, f, g) refl)))))
+numbered opened b found = go (field_of opened b) (seen opened b)
+  where
+    go : (r : Result Found NoField) → Seen opened b r → r ≡ Ok found → field_number found.field ≡ get_or b 0 0
+    go r (ended h) is = cc
+    go r (cut h) is = cc
+    go r (wrong h f) is = cc
+    go r (whole f h) is =
+        let len = two_at b 1 in
+        let content = drop 3 b in
+        let one : ◌≡◌ {A = Found} (record { field = content_of (get_or b 0 0) len content; size = 3 + len }) found = cc in
+        subst (λ (x : Found). field_number x.field ≡ get_or b 0 0) one (tagged opened (get_or b 0 0) len content f)
 
 -- A malformed place has the number of its refusal.
-pub malformed-numbered : field_number Malformed ≡ 16
+pub malformed-numbered : fault_number Malformed ≡ 16
 malformed-numbered = refl

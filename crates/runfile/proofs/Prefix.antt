@@ -7,8 +7,9 @@ use lib.{ListN.{length, get_or, drop, length-append, length-drop, get_or-append}
 use lib.Dec.{ltb, leb, eqb}
 use borrow.Author.Tests.{leb-true, ltb-true, ltb-false, eqb-true, lt-leb, le-ltb}
 use Rattle.model.proofs.Tests.Truth.{and-true, or_cases}
-use Rattle.runfile.specs.Field.{two_at, four_at, formed, longest_field, content_of, missing, field_of}
-use Rattle.runfile.specs.declared.{Field.TheVariants.{Malformed, Cut, End}, Found.Found}
+use Rattle.runfile.specs.Field.{two_at, four_at, formed, longest_field, content_of, field_of}
+use Rattle.std.specs.Prelude.{Result, Ok, Err}
+use Rattle.runfile.specs.declared.{Found.Found, NoField.{NoField, TheVariants.{Malformed, Cut, End}}}
 
 clash : {P : Type 0} → ◌≡◌ {A = Bool} false true → P
 clash z = absurd (let y : ◌≡◌ {A = ℕ} 0 1 = cc in omega arith)
@@ -30,12 +31,12 @@ formed_most true tag len e =
     (λ f. omega (arith, eqb-true len 6 (and-true (eqb tag 6) (eqb len 6) f).1))
 
 -- What stands at the head of b.
-pub data Seen (o : Bool) (b : List ℕ) : Found → Type 0 where
-  ended : length b ≤ 0 → Seen o b (missing End)
-  cut : length b < longest_field → Seen o b (missing Cut)
-  wrong : 3 ≤ length b → formed o (get_or b 0 0) (two_at b 1) ≡ false → Seen o b (missing Malformed)
+pub data Seen (o : Bool) (b : List ℕ) : Result Found NoField → Type 0 where
+  ended : length b ≤ 0 → Seen o b (Err End)
+  cut : length b < longest_field → Seen o b (Err Cut)
+  wrong : 3 ≤ length b → formed o (get_or b 0 0) (two_at b 1) ≡ false → Seen o b (Err Malformed)
   whole : formed o (get_or b 0 0) (two_at b 1) ≡ true → 3 + two_at b 1 ≤ length b
-      → Seen o b (record { field = content_of (get_or b 0 0) (two_at b 1) (drop 3 b); size = 3 + two_at b 1 })
+      → Seen o b (Ok (record { field = content_of (get_or b 0 0) (two_at b 1) (drop 3 b); size = 3 + two_at b 1 }))
 
 pub seen : (o : Bool) (b : List ℕ) → Seen o b (field_of o b)
 unfolding field_of
@@ -89,7 +90,7 @@ module _ (b c : List ℕ) where
   unfolding four_at
   same_four i h = rw (same_two i (omega arith), same_two (i + 2) (omega arith))
 
-  same_content : (tag len : ℕ) (o : Bool) → formed o tag len ≡ true → len ≤ length b
+  pub same_content : (tag len : ℕ) (o : Bool) → formed o tag len ≡ true → len ≤ length b
       → content_of tag len (b ++ c) ≡ content_of tag len b
   unfolding content_of
   same_content tag len o e h = go (eqb tag 1 || eqb tag 5) refl (eqb tag 2) refl (eqb tag 3) refl (eqb tag 6) refl
@@ -117,7 +118,7 @@ module _ (o : Bool) (b c : List ℕ) where
   longer : length (b ++ c) ≡ length b + length c
   longer = length-append b c
 
-  pub same-wrong : 3 ≤ length b → formed o (get_or b 0 0) (two_at b 1) ≡ false → field_of o (b ++ c) ≡ missing Malformed
+  pub same-wrong : 3 ≤ length b → formed o (get_or b 0 0) (two_at b 1) ≡ false → field_of o (b ++ c) ≡ Err Malformed
   unfolding field_of
   same-wrong h f =
       rw (
@@ -130,7 +131,7 @@ module _ (o : Bool) (b c : List ℕ) where
       )
 
   pub same_whole : formed o (get_or b 0 0) (two_at b 1) ≡ true → 3 + two_at b 1 ≤ length b
-      → field_of o (b ++ c) ≡ record { field = content_of (get_or b 0 0) (two_at b 1) (drop 3 b); size = 3 + two_at b 1 }
+      → field_of o (b ++ c) ≡ Ok (record { field = content_of (get_or b 0 0) (two_at b 1) (drop 3 b); size = 3 + two_at b 1 })
   unfolding field_of
   same_whole f h =
       rw (

@@ -1,9 +1,9 @@
 -- The field at the head of some bytes. (Document 01: The run file and its trace.)
-use Rattle.std.specs.Prelude.{ℕ, ◌+◌, ◌*◌}
+use Rattle.std.specs.Prelude.{ℕ, ◌+◌, ◌*◌, Result, Ok, Err}
 use mathlib.Core.{Path.◌≡◌, List.List, Bool.{Bool, ◌&&◌, ◌||◌, cond}}
 use lib.{ListN.{length, get_or, drop}, Dec.{ltb, leb, eqb}}
 use Rattle.model.specs.{declared.Op.TheVariants.{Push, Pop, PushPooled, Step}, Refusals.malformed}
-use Rattle.runfile.specs.declared.{Field.{Field, TheVariants.{Open, Each, Malformed, Cut, End}}, Found.Found}
+use Rattle.runfile.specs.declared.{Field.{Field, TheVariants.{Open, Each}}, Found.Found, NoField.{NoField, TheVariants.{Malformed, Cut, End}}}
 
 -- Numbers, high byte first.
 unfoldable pub two_at : List ℕ → ℕ → ℕ
@@ -33,32 +33,35 @@ content_of tag len b =
     (cond (eqb tag 6) (Each (PushPooled (get_or b 1 0) (four_at b 2)) 1)
     (Each Step len))))
 
--- The number of a field: its tag, or that of the refusal; 0 where no field is there.
+-- The number of a field: its tag. Where no field is, the number of the refusal, or 0.
 abbrev pub field_number : Field → ℕ
 field_number (Open pooled tasks slots tag) = cond pooled 5 1
 field_number (Each (Push side slot label) n) = 2
 field_number (Each (Pop side) n) = 3
 field_number (Each Step n) = 4
 field_number (Each (PushPooled side label) n) = 6
-field_number Malformed = malformed
-field_number Cut = 0
-field_number End = 0
 
--- Where there is no whole field.
-abbrev pub missing : Field → Found
-missing f = record { field = f; size = 0 }
+abbrev pub fault_number : NoField → ℕ
+fault_number Malformed = malformed
+fault_number Cut = 0
+fault_number End = 0
+
+-- How many bytes are taken: none where there is no whole field.
+abbrev pub taken : Result Found NoField → ℕ
+taken (Ok found) = found.size
+taken (Err why) = 0
 
 -- One tag byte, two length bytes, content. A wrong head is malformed whether or not its content is there.
-unfoldable pub field_of : Bool → List ℕ → Found
+unfoldable pub field_of : Bool → List ℕ → Result Found NoField
 field_of opened b =
     let tag = get_or b 0 0 in
     let len = two_at b 1 in
-    cond (leb (length b) 0) (missing End)
-    (cond (ltb (length b) 3) (missing Cut)
+    cond (leb (length b) 0) (Err End)
+    (cond (ltb (length b) 3) (Err Cut)
     (cond (formed opened tag len)
-    (cond (ltb (length b) (3 + len)) (missing Cut) (record { field = content_of tag len (drop 3 b); size = 3 + len }))
-    (missing Malformed)))
+    (cond (ltb (length b) (3 + len)) (Err Cut) (Ok (record { field = content_of tag len (drop 3 b); size = 3 + len })))
+    (Err Malformed)))
 
 -- A whole field has the number that its tag byte names.
 abbrev pub Numbered : Type 0
-Numbered = (opened : Bool) (b : List ℕ) → ((field_of opened b).size ≡ 0 → ⊥) → field_number (field_of opened b).field ≡ get_or b 0 0
+Numbered = (opened : Bool) (b : List ℕ) (found : Found) → field_of opened b ≡ Ok found → field_number found.field ≡ get_or b 0 0

@@ -1,8 +1,8 @@
 //! Tagged fields: one tag byte, two length bytes, content, numbers high byte first.
 #![tactic(auto)]
 
-ghost use Rattle.std.specs.Prelude.{◌≡◌, ◌+◌, ◌-◌, ◌≤◌, ◌<◌, length, get_or, drop};
-ghost use Rattle.runfile.specs.Field.{two_at, four_at, formed, content_of, missing, field_of};
+ghost use Rattle.std.specs.Prelude.{◌≡◌, ◌≤◌, length, IfOk, Bool, true};
+ghost use Rattle.runfile.specs.Field.{formed, content_of, field_of};
 
 use model::Op;
 
@@ -22,6 +22,18 @@ pub enum Field {
         op: Op,
         count: usize,
     },
+}
+
+/// A whole field, and how many bytes it takes.
+#[derive(Clone, Copy)]
+pub struct Found {
+    pub field: Field,
+    pub size: usize,
+}
+
+/// Why no whole field is there.
+#[derive(Clone, Copy, Debug, PartialEq, Eq)]
+pub enum NoField {
     /// Refusal 16.
     Malformed,
     /// The bytes end before the field does. It is malformed if no more come.
@@ -30,122 +42,78 @@ pub enum Field {
     End,
 }
 
-/// A field, and how many bytes it takes: none where there is no whole one.
-#[derive(Clone, Copy)]
-pub struct Found {
-    pub field: Field,
-    pub size: usize,
-}
-
-// The byte at i, and 0 past the end.
-fn byte_at(s: &[u8], i: usize) -> u64
-    ensures { (result ≡ get_or s.now i 0) × (result < 256) }
-{
-    if i < s.len() { s[i] as u64 } else { 0 }
-}
-
-fn two_at(s: &[u8], at: usize) -> u64
-    requires { at ≤ length s.now + 16 }
-    ensures { (result ≡ two_at s.now at) × (result < 65536) }
-{
-    byte_at(s, at) * 256 + byte_at(s, at + 1)
-}
-
-fn four_at(s: &[u8], at: usize) -> u32
-    requires { at ≤ length s.now + 8 }
-    ensures { result ≡ four_at s.now at }
-{
-    (two_at(s, at) * 65536 + two_at(s, at + 2)) as u32
-}
-
-// Whether a field of this tag and length may stand here.
-fn is_formed(opened: bool, tag: u64, len: u64) -> bool
+// Whether a field of this tag and length may stand here. Tags stay numbers, as document 01 lists them: an enum would be made
+// of the byte by a list as long as this one, only to be matched in `content`.
+#[tactic(auto, unfolding(crate::specs::Field::formed))]
+fn is_formed(opened: bool, tag: u8, len: u16) -> bool
     ensures { result ≡ formed opened tag len }
 {
     if opened {
-        ((tag == 2) & (len == 8))
-            | ((tag == 3) & (len == 2))
-            | ((tag == 4) & (len <= 4096))
-            | ((tag == 6) & (len == 6))
+        matches!((tag, len), (2, 8) | (3, 2) | (4, 0..=4096) | (6, 6))
     } else {
-        ((tag == 1) | (tag == 5)) & (len == 7)
+        matches!((tag, len), (1 | 5, 7))
     }
 }
 
-// The content from position `from` on.
-fn content(s: &[u8], from: usize, tag: u64, len: usize) -> Field
-    requires { from ≤ length s.now }
-    ensures { result ≡ content_of tag len (drop from s.now) }
+// The content of a field, as many bytes as its tag asks for.
+#[tactic(auto, unfolding(crate::specs::Field::content_of, crate::specs::Field::formed, crate::specs::Field::two_at, crate::specs::Field::four_at))]
+fn content(tag: u8, bytes: &[u8]) -> Field
+    ensures { (opened : Bool) → formed opened tag (length bytes.now) ≡ true → result ≡ content_of tag (length bytes.now) bytes.now }
 {
-    if (tag == 1) | (tag == 5) {
-        Field::Open {
+    match (tag, bytes) {
+        (1 | 5, &[tasks, s1, s0, t3, t2, t1, t0]) => Field::Open {
             pooled: tag == 5,
-            tasks: byte_at(s, from),
-            slots: two_at(s, from + 1),
-            tag: four_at(s, from + 3),
-        }
-    } else if tag == 2 {
-        let side = byte_at(s, from + 1);
-        let slot = two_at(s, from + 2);
-        let label = four_at(s, from + 4);
-        Field::Each {
-            op: Op::Push { side, slot, label },
+            tasks: u64::from(tasks),
+            slots: u64::from(u16::from_be_bytes([s1, s0])),
+            tag: u32::from_be_bytes([t3, t2, t1, t0]),
+        },
+        (2, &[_, side, s1, s0, l3, l2, l1, l0]) => Field::Each {
+            op: Op::Push {
+                side: u64::from(side),
+                slot: u64::from(u16::from_be_bytes([s1, s0])),
+                label: u32::from_be_bytes([l3, l2, l1, l0]),
+            },
             count: 1,
-        }
-    } else if tag == 3 {
-        let side = byte_at(s, from + 1);
-        Field::Each {
-            op: Op::Pop { side },
+        },
+        (3, &[_, side]) => Field::Each {
+            op: Op::Pop {
+                side: u64::from(side),
+            },
             count: 1,
-        }
-    } else if tag == 6 {
-        let side = byte_at(s, from + 1);
-        let label = four_at(s, from + 2);
-        Field::Each {
-            op: Op::PushPooled { side, label },
+        },
+        (6, &[_, side, l3, l2, l1, l0]) => Field::Each {
+            op: Op::PushPooled {
+                side: u64::from(side),
+                label: u32::from_be_bytes([l3, l2, l1, l0]),
+            },
             count: 1,
-        }
-    } else {
-        Field::Each {
+        },
+        (_, tasks) => Field::Each {
             op: Op::Step,
-            count: len,
-        }
+            count: tasks.len(),
+        },
     }
 }
 
-fn no_field(field: Field) -> Found
-    ensures { (result ≡ missing field) × (result.size ≡ 0) }
+/// The field at the head of the bytes. `opened`: an opening stands before it.
+#[tactic(auto, unfolding(crate::specs::Field::field_of, crate::specs::Field::two_at))]
+pub fn first_field(bytes: &[u8], opened: bool) -> Result<Found, NoField>
+    ensures value { result ≡ field_of opened bytes.now }
+    ensures size_in_bounds { IfOk result (λ found. found.size ≤ length bytes.now) }
 {
-    Found {
-        field: field,
-        size: 0,
-    }
-}
-
-/// The field at a position. `opened`: an opening stands before it.
-pub fn field_at(s: &[u8], at: usize, opened: bool) -> Found
-    ensures value { result ≡ field_of opened (drop at s.now) }
-    ensures size_in_bounds { result.size ≤ length s.now - at }
-{
-    if s.len() <= at {
-        return no_field(Field::End);
-    }
-    let left = s.len() - at;
-    if left < HEAD {
-        return no_field(Field::Cut);
-    }
-    let tag = byte_at(s, at);
-    let len = two_at(s, at + 1);
-    if is_formed(opened, tag, len) {
-        let n = len as usize;
-        if left - HEAD < n {
-            return no_field(Field::Cut);
+    match bytes {
+        [] => Err(NoField::End),
+        &[tag, high, low, ref rest @ ..] => {
+            let len = u16::from_be_bytes([high, low]);
+            if !is_formed(opened, tag, len) {
+                return Err(NoField::Malformed);
+            }
+            let bytes = rest.get(..usize::from(len)).ok_or(NoField::Cut)?;
+            Ok(Found {
+                field: content(tag, bytes),
+                size: HEAD + bytes.len(),
+            })
         }
-        let field = content(s, at + HEAD, tag, n);
-        return Found {
-            field: field,
-            size: HEAD + n,
-        };
+        _ => Err(NoField::Cut),
     }
-    no_field(Field::Malformed)
 }

@@ -1,13 +1,16 @@
 -- What a call answers: a refusal, the schedule that the search found, or no more.
 use mathlib.Core.{Path.{◌≡◌, refl, sym, ap, ◌∙◌}, Bool.{Bool, true, false, ◌&&◌, not, cond}, List.{List, [], ◌∷◌}}
-use Prim.Native.Nat.{ℕ, ◌≤◌}
+use Prim.Native.Nat.{ℕ, ◌+◌, ◌≤◌}
 use native.Mathlib.Omega.{arith}
 use lib.{Dec.{eqb, leb}, ListN.{length, get_or, set}, Seq.sets}
-use borrow.Author.Tests.{ne_eqb, leb-true, not-true}
+use borrow.Author.Tests.{ne_eqb, leb-true}
+use Rattle.std.specs.Prelude.{Option, Some, None}
 use Rattle.model.specs.{declared.{Call.Call, Record.Record}, Tables.{Tables, Queue, is_pooled, unused}, Report.waiting}
 use Rattle.model.specs.{Sound.{control_sound, rows_fit}, Walk.{Walk, entries, broken, contents, is_broken, met}}
-use Rattle.model.{specs.Refusals.{Rule, rule, first, table_rules, records_fit}, proofs.Tests.Truth.{not_both, and-true}}
-use Rattle.walk.specs.{declared.Tally.Tally, Counted.counted}
+use Rattle.model.{specs.Refusals.{Rule, rule, first, table_rules, records_fit}, proofs.Tests.Truth.and-true}
+use Rattle.std.specs.Prelude.{Result}
+use Rattle.sound.specs.{declared.Lengths.Lengths, Lengths.{lengths_of, lengths_fit, tables_fit}}
+use Rattle.walk.specs.{declared.Unsound.Unsound, Counted.counted}
 use Rattle.schedule_model.specs.{declared.ScheduleReply.ScheduleReply, Schedules.all_schedules}
 use Rattle.schedule_model.specs.Next.{Next, given, no_more, memory_length, remembered, first_after, storing, two_at_work}
 use Rattle.schedule_model.{specs.Next.{schedule_refusal, handing, next_schedule}, proofs.TwoRecords.two_records}
@@ -20,45 +23,49 @@ abbrev pub told : ScheduleReply → List ℕ → Tables → Answered
 told r ws q = record { handed = record { reply = r; memory = ws }; tables = q }
 
 -- Nothing was found, and all is as it was.
-none_told : (f : Found) (ws ws' : List ℕ) (q q' : Queue) (m : Next) → handed f ws' q' ≡ sought 48 ws m q → f.found ≡ false
+none_told : (ws ws' : List ℕ) (q q' : Queue) (m : Next) → handed None ws' q' ≡ sought 48 ws m q
     → told (record { code = 0; ending = 3; length = 0 }) ws' q'.tables ≡ record { handed = handing ws m; tables = q.tables }
 unfolding sought
-none_told f ws ws' q q' (given s) e h = absurd (not_both (ap (λ (z : Sought). z.found.found) e) h)
-none_told f ws ws' q q' no_more e h = ap (λ (z : Sought). told (record { code = 0; ending = 3; length = 0 }) z.memory z.queue.tables) e
+none_told ws ws' q q' (given s) e = absurd (let z : None ≡ Some _ = ap (λ (z : Sought). z.found) e in cc)
+none_told ws ws' q q' no_more e = ap (λ (z : Sought). told (record { code = 0; ending = 3; length = 0 }) z.memory z.queue.tables) e
 
 -- A schedule was found and stored; its length goes into word 0.
-some_told : (f : Found) (ws ws' : List ℕ) (q q' : Queue) (m : Next) → handed f ws' q' ≡ sought 48 ws m q → f.found ≡ true
+some_told : (f : Found) (ws ws' : List ℕ) (q q' : Queue) (m : Next) → handed (Some f) ws' q' ≡ sought 48 ws m q
     → told (record { code = 0; ending = f.ending; length = f.length }) (set ws' 0 f.length) q'.tables
     ≡ record { handed = handing ws m; tables = q.tables }
 unfolding sought storing
-some_told f ws ws' q q' no_more e h = absurd (not_both h (ap (λ (z : Sought). z.found.found) e))
-some_told f ws ws' q q' (given s) e h =
-    let n : f.length ≡ length s.steps = ap (λ (z : Sought). z.found.length) e ∙ omega arith in
+some_told f ws ws' q q' no_more e = absurd (let z : Some f ≡ None = ap (λ (z : Sought). z.found) e in cc)
+some_told f ws ws' q q' (given s) e =
+    let found : Some f ≡ Some (record { length = 0 + length s.steps; ending = s.ending }) = ap (λ (z : Sought). z.found) e in
+    let is : f ≡ record { length = 0 + length s.steps; ending = s.ending } = cc in
+    let n : f.length ≡ length s.steps = ap (λ (z : Found). z.length) is ∙ omega arith in
     let stored : set ws' 0 f.length ≡ sets ws 0 (length s.steps ∷ s.steps) =
     ap (λ (z : Sought). set z.memory 0 f.length) e
     ∙ ap (λ (k : ℕ). set (sets ws 1 s.steps) 0 k) n
     ∙ sets_above ws s.steps 1 0 (length s.steps) (omega arith)
     in
     λ i.
-    told (record { code = 0; ending = (e i).found.ending; length = n i }) (stored i) (e i).queue.tables
+    told (record { code = 0; ending = (is i).ending; length = n i }) (stored i) (e i).queue.tables
 
 -- The search was bound by the whole list.
-module _ (ws ws' : List ℕ) (len : ℕ) (q q' : Queue) (f : Found) (whole : len ≡ memory_length ws)
-    (found : handed f ws' q' ≡ sought 48 ws (seeking ws len 48 false q) q) where
-  abbrev all : handed f ws' q' ≡ sought 48 ws (seeking ws (memory_length ws) 48 false q) q
-  all = found ∙ ap (λ (n : ℕ). sought 48 ws (seeking ws n 48 false q) q) whole
-
+module _ (ws ws' : List ℕ) (len : ℕ) (q q' : Queue) (whole : len ≡ memory_length ws) where
   abbrev answer : Answered
   answer = record { handed = handing ws (seeking ws (memory_length ws) 48 false q); tables = q.tables }
 
-  pub no-more : not f.found ≡ true → told (record { code = 0; ending = 3; length = 0 }) ws' q'.tables ≡ answer
-  no-more h = none_told f ws ws' q q' (seeking ws (memory_length ws) 48 false q) all (not-true _ h)
+  all : (f : Option Found) → handed f ws' q' ≡ sought 48 ws (seeking ws len 48 false q) q
+      → handed f ws' q' ≡ sought 48 ws (seeking ws (memory_length ws) 48 false q) q
+  all f found = found ∙ ap (λ (n : ℕ). sought 48 ws (seeking ws n 48 false q) q) whole
 
-  pub next-found : (ws'' : List ℕ) → f.found ≡ true → ws'' ≡ set ws' 0 f.length
+  pub no-more : handed None ws' q' ≡ sought 48 ws (seeking ws len 48 false q) q
+      → told (record { code = 0; ending = 3; length = 0 }) ws' q'.tables ≡ answer
+  no-more found = none_told ws ws' q q' (seeking ws (memory_length ws) 48 false q) (all None found)
+
+  pub next-found : (f : Found) → handed (Some f) ws' q' ≡ sought 48 ws (seeking ws len 48 false q) q
+      → (ws'' : List ℕ) → ws'' ≡ set ws' 0 f.length
       → told (record { code = 0; ending = f.ending; length = f.length }) ws'' q'.tables ≡ answer
-  next-found ws'' h e =
+  next-found f found ws'' e =
       ap (λ (l : List ℕ). told (record { code = 0; ending = f.ending; length = f.length }) l q'.tables) e
-      ∙ some_told f ws ws' q q' (seeking ws (memory_length ws) 48 false q) all h
+      ∙ some_told f ws ws' q q' (seeking ws (memory_length ws) 48 false q) (all (Some f) found)
 
 -- Two records with the tables.
 abbrev pub pair_of : Tables → Record → Record → Queue
@@ -117,10 +124,15 @@ module _ (q : Tables) (rs : List Record) (n : ℕ) (a b : Call) (ws : List ℕ) 
       (first_part (control_sound q.control) fit (rule 34 (is_broken (contents q)) ∷ rule 42 (not (two && leb (length (met (contents q))) 4)) ∷ [])
       ∙ ap (λ (k : ℕ). cond (eqb before 0) k before) (last-part two (contents q)))
 
+  -- The number found by the lengths is that of the tables.
+  pub found : (why : ℕ) (t : Lengths) → t ≡ lengths_of q n → why ≡ first (table_rules q.control (tables_fit q.control t && leb 49 (length ws))) → why ≡ before
+  unfolding lengths_fit rows_fit
+  found why t m e = e ∙ ap (λ (l : Lengths). first (table_rules q.control (tables_fit q.control l && leb 49 (length ws)))) m
+
   pub refused-before : (why : ℕ) → why ≡ before → (why ≡ 0 → ⊥) → why ≡ schedule_refusal Q ws
   refused-before why e n = sym (rules ∙ rw (sym e, ne_eqb why 0 n) refl)
 
-  pub refused-after : (first last : ℕ) (walk : Tally) → first ≡ before → first ≡ 0 → walk ≡ counted (contents q) → last ≡ refusal_after two walk
+  pub refused-after : (first last : ℕ) (walk : Result ℕ Unsound) → first ≡ before → first ≡ 0 → walk ≡ counted (contents q) → last ≡ refusal_after two walk
       → last ≡ schedule_refusal Q ws
   refused-after first last walk e z w l = sym (rules ∙ rw (sym e, z) (ap (refusal_after two) (sym w) ∙ sym l))
 

@@ -1,15 +1,15 @@
 -- The call by value: its refusals after those of the tables, and what it leaves.
 use mathlib.Core.{Path.◌≡◌, Bool.{Bool, ◌&&◌, cond}, List.List}
-use Rattle.std.specs.Prelude.{ℕ}
+use Rattle.std.specs.Prelude.{ℕ, Result, Ok, Err}
 use lib.{Dec.leb, ListN.{length, get_or}}
 use Rattle.model.specs.{declared.{Call.Call, Record.Record}, Tables.{Tables, unused}}
-use Rattle.walk.specs.declared.Tally.{Tally, TheVariants.{Broken, Labels}}
+use Rattle.walk.specs.declared.Unsound.{Unsound}
 use Rattle.schedule_model.specs.Next.{Handed, next_schedule}
 
 -- By the walk, after the rules of the tables (`table_rules`). Two: two tasks, both busy.
-unfoldable pub refusal_after : Bool → Tally → ℕ
-refusal_after two Broken = 34
-refusal_after two (Labels n) = cond (two && leb n 4) 0 42
+unfoldable pub refusal_after : Bool → Result ℕ Unsound → ℕ
+refusal_after two (Err u) = 34
+refusal_after two (Ok n) = cond (two && leb n 4) 0 42
 
 -- So many records, of which the first two have these calls.
 pub record Begins (records : List Record) (n : ℕ) (a b : Call) : Type 0 where

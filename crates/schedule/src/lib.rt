@@ -11,9 +11,9 @@ ghost use Rattle.schedule_search.specs.Sought.{seeking};
 ghost use Rattle.schedule.specs.Answered.{refusal_after, Begins, Answered, answered};
 
 use model::{Call, Control};
-use schedule_model::ScheduleReply;
+use schedule_model::{Ending, ScheduleReply};
 use sound::Lengths;
-use walk::Tally;
+use walk::Unsound;
 
 /// 34 for control and Anchor, and 12. The tables and the memory are given by their lengths.
 fn unfit_tables(c: Control, memory: usize, t: Lengths) -> u32
@@ -27,13 +27,13 @@ fn unfit_tables(c: Control, memory: usize, t: Lengths) -> u32
 }
 
 /// 34 for the walk, and 42.
-fn unfit(c: Control, a: Call, b: Call, walked: Tally) -> u32
+fn unfit(c: Control, a: Call, b: Call, walked: Result<u64, Unsound>) -> u32
     ensures { result ≡ refusal_after (eqb c.tasks 2 && not (eqb a.place 0) && not (eqb b.place 0)) walked }
 {
     let two = (c.tasks == 2) & !(a.place == 0) & !(b.place == 0);
     match walked {
-        Tally::Broken => 34,
-        Tally::Labels(n) => { if two & (n <= 4) { 0 } else { 42 } }
+        Err(Unsound) => 34,
+        Ok(n) => { if two & (n <= 4) { 0 } else { 42 } }
     }
 }
 
@@ -54,14 +54,7 @@ fn refusal(
         → result ≡ schedule_refusal (queue_of c rs lefts.now rights.now labels.now marks.now next.now)
         given.now }
 {
-    let t = Lengths {
-        records,
-        lefts: lefts.len(),
-        rights: rights.len(),
-        labels: labels.len(),
-        marks: marks.len(),
-        next: next.len(),
-    };
+    let t = Lengths::of(records, lefts, rights, labels, marks, next);
     let why = unfit_tables(c, given.len(), t);
     if why != 0 {
         return why;
@@ -84,11 +77,9 @@ fn refused(why: u32) -> ScheduleReply
 fn row_at(records: &[[u64; layout::RECORD_WORDS]], task: usize) -> [u64; layout::RECORD_WORDS]
     ensures { record_of result ≡ get_or (records_of records.now) task unused }
 {
-    if task < records.len() {
-        let row = records[task];
-        row
-    } else {
-        [0; layout::RECORD_WORDS]
+    match records.get(task) {
+        Some(row) => *row,
+        None => [0; layout::RECORD_WORDS],
     }
 }
 
@@ -96,8 +87,7 @@ fn row_at(records: &[[u64; layout::RECORD_WORDS]], task: usize) -> [u64; layout:
 fn memory_length(given: &[u64]) -> u64
     ensures { result ≡ memory_length given.now }
 {
-    let n = table::word_at(given, 0);
-    if n <= 48 { n } else { 48 }
+    table::get_or(given, 0, 0).min(48)
 }
 
 /// The schedule after the remembered list, stored over it.
@@ -123,21 +113,23 @@ fn hand_out(
         record { handed = handing ws (seeking ws (memory_length ws) 48 false q); tables = q.tables }) }
 {
     let len = memory_length(given);
-    let f = schedule_search::search(
+    let found = schedule_search::search(
         control, a, b, len, given, lefts, rights, labels, marks, next,
     );
-    if !f.found {
-        return ScheduleReply {
+    match found {
+        Some(f) => {
+            table::set(given, 0, f.length);
+            ScheduleReply {
+                code: 0,
+                ending: f.ending,
+                length: f.length,
+            }
+        }
+        None => ScheduleReply {
             code: 0,
-            ending: 3,
+            ending: u64::from(Ending::NoMore),
             length: 0,
-        };
-    }
-    table::put_word(given, 0, f.length);
-    ScheduleReply {
-        code: 0,
-        ending: f.ending,
-        length: f.length,
+        },
     }
 }
 

@@ -1,11 +1,13 @@
 -- The schedules of a queue are those that are allowed: one step is taken off a schedule after the other.
+use Rattle.std.specs.Prelude.{Err, Ok}
 use mathlib.Core.{Path.{◌≡◌, refl, sym, ap, subst, ◌∙◌}, Bool.{Bool, true, false, ◌||◌, cond}, Logic.⊎_elim}
 use mathlib.Core.List.Memᴰ
 use mathlib.Core.List.{List, [], ◌∷◌, ◌++◌, Memᴰ}
 use Prim.Native.Nat.{ℕ, zero, suc, ◌<◌}
 use native.Mathlib.Omega.{arith}
 use lib.{Dec.{eqb-suc-suc, eqb-zero-suc}, ListN.length}
-use Rattle.model.specs.{declared.{Outcome.{Outcome, TheVariants.{Refused, Moved}}, Op.TheVariants.Step}, Tables.Queue}
+use Rattle.model.specs.Outcomes.{Outcome}
+use Rattle.model.specs.{declared.Op.TheVariants.Step, Tables.Queue}
 use Rattle.model.specs.{Calls.act, History.final}
 use Rattle.schedule_model.specs.Schedules.{Schedule, ends, begun, at_work, both_answered, onwards, through}
 use Rattle.schedule_model.specs.{Schedules.schedules, Allowed.last_refused}
@@ -100,9 +102,9 @@ module _ (n : ℕ) (q : Queue) (going : has_ended (suc n) q [] ≡ false) where
     where
       go : (b : Bool) → at_work q t ≡ b → (o : Outcome) → (act q t Step).outcome ≡ o → Memᴰ s (cond b (onwards t o l) []) → Allowed (suc n) q s
       go false w o e m = absurd (Memᴰ.not-nil m)
-      go true w (Refused why) e m =
+      go true w (Err why) e m =
           subst (Allowed (suc n) q) (sym (Memᴰ.eq_of_singleton m)) (stop n q t (ap is_refused e) low w going)
-      go true w (Moved a) e m =
+      go true w (Ok a) e m =
           let r = Memᴰ.of_map (begun t) l m in
           subst (Allowed (suc n) q) r.2 (on q t (ap is_refused e) n r.0 low w going (ih r.0 r.1))
 
@@ -113,8 +115,8 @@ module _ (n : ℕ) (q : Queue) (going : has_ended (suc n) q [] ≡ false) where
   through-every t l ts x ih w h = rw w (go (act q t Step).outcome refl)
     where
       go : (o : Outcome) → (act q t Step).outcome ≡ o → Memᴰ (record { steps = t ∷ ts; ending = x }) (onwards t o l)
-      go (Refused why) e = Memᴰ.head (stopped n q t (ap is_refused e) ts x h)
-      go (Moved a) e =
+      go (Err why) e = Memᴰ.head (stopped n q t (ap is_refused e) ts x h)
+      go (Ok a) e =
           let s : Schedule = record { steps = ts; ending = x } in
           Memᴰ.map (begun t) (ih s (off q t (ap is_refused e) n s h))
 

@@ -1,11 +1,13 @@
 -- Beginning with zeros, repeated calls hand out each schedule once, and then no more.
+use Rattle.std.specs.Prelude.{Err, Ok}
 use mathlib.Core.{Path.{◌≡◌, refl, sym, ap, subst, ◌∙◌}, Bool.{Bool, true, false, cond}}
 use mathlib.Core.List.{List, [], ◌∷◌, ◌++◌, map}
 use Prim.Native.Nat.{ℕ, zero, suc, ◌+◌, ◌<◌, ◌≤◌}
 use native.Mathlib.{Nat.{zero-add, suc-add}, Omega.arith}
 use lib.{ListN.{length, get_or, drop, replicate}, Seq.{sets-eq, length-sets, take-append_seam}}
 use borrow.Author.Tests.{le-leb, ne_eqb}
-use Rattle.model.specs.{declared.{Outcome.{Outcome, TheVariants.{Refused, Moved}}, Op.TheVariants.Step}, Tables.Queue}
+use Rattle.model.specs.Outcomes.{Outcome}
+use Rattle.model.specs.{declared.Op.TheVariants.Step, Tables.Queue}
 use Rattle.model.{specs.{Calls.act, Lists.All}, proofs.Lists.All.{all_map, all_append}}
 use Rattle.schedule_model.specs.Schedules.{Schedule, ends, begun, at_work, both_answered, onwards, through}
 use Rattle.schedule_model.specs.{Schedules.{schedules, all_schedules}, Next.{schedule_refusal, next_schedule}}
@@ -83,8 +85,8 @@ through-fits : (n : ℕ) (q : Queue) (t : ℕ) (l : List Schedule) → All (Fits
 through-fits n q t l h = go (at_work q t) (act q t Step).outcome
   where
     go : (b : Bool) (a : Outcome) → All (Fits (suc n)) (cond b (onwards t a l) [])
-    go true (Refused why) = (record { short = omega arith; ending = omega arith }, tt)
-    go true (Moved a) = begun-fits n t l h
+    go true (Err why) = (record { short = omega arith; ending = omega arith }, tt)
+    go true (Ok a) = begun-fits n t l h
     go false a = tt
 
 fits : (q : Queue) (n : ℕ) → All (Fits n) (schedules q n)

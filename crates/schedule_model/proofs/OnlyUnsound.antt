@@ -1,10 +1,12 @@
 -- Of two busy tasks a step is refused by 34 only.
+use Rattle.model.proofs.Tests.Truth.{same_refusal}
 use mathlib.Core.{Path.{◌≡◌, refl, sym, ap, ◌∙◌}, Bool.{Bool, true, false, not, cond}, List.{List, [], ◌∷◌}}
 use Prim.Native.Nat.{ℕ, ◌<◌}
 use native.Mathlib.Omega.{arith}
 use lib.Dec.{eqb}
 use borrow.Author.Tests.{lt-ltb, not-true, not-false, eqb-true}
-use Rattle.model.specs.declared.{Call.Call, Record.Record, Outcome.TheVariants.Refused, Op.TheVariants.Step}
+use Rattle.model.specs.Outcomes.{Refused}
+use Rattle.model.specs.declared.{Call.Call, Record.Record, Op.TheVariants.Step}
 use Rattle.model.specs.{Tables.{Tables, Queue, is_pooled, task_at, record_at}, Places.{Move, move, apply}, History.final}
 use Rattle.model.specs.Sound.{control_tests, control_sound, record_sound}
 use Rattle.model.specs.Places.{Touch, nothing, set_anchor, set_link, clear_mark, take_slot, set_next, set_head, word_found}
@@ -76,8 +78,8 @@ busy-refusal q t h low busy = rw (h.sound, h.enough, h.tasks, lt-ltb t 2 low, no
 
 refused_by : (a b : Bool) (q : Tables) (r : Record) (done : Acted) (n : ℕ) → (done.outcome ≡ Refused n → ⊥)
     → (decide (cond a 34 (cond b 34 0)) q r done).outcome ≡ Refused n → n ≡ 34
-refused_by true b q r done n f e = let z : ◌≡◌ {A = ℕ} 34 n = cc in sym z
-refused_by false true q r done n f e = let z : ◌≡◌ {A = ℕ} 34 n = cc in sym z
+refused_by true b q r done n f e = sym (same_refusal e)
+refused_by false true q r done n f e = sym (same_refusal e)
 refused_by false false q r done n f e = absurd (f e)
 
 moved : (q : Tables) (r : Record) (m : Move) (n : ℕ) → (finish q r m).outcome ≡ Refused n → ⊥

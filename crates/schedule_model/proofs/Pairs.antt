@@ -1,9 +1,11 @@
 -- Any two schedules of a queue part at some step, where one goes on with task 0 and the other with task 1.
+use Rattle.std.specs.Prelude.{Err, Ok}
 use mathlib.Core.{Path.{◌≡◌, refl}, Bool.{Bool, true, false, cond}, List.{List, [], ◌∷◌, ◌++◌, map}}
 use Prim.Native.Nat.{ℕ, zero, suc}
 use native.Mathlib.Omega.{arith}
 use borrow.Author.Tests.{le-ltb, eq-eqb}
-use Rattle.model.specs.{declared.{Outcome.{Outcome, TheVariants.{Refused, Moved}}, Op.TheVariants.Step}, Tables.Queue}
+use Rattle.model.specs.Outcomes.{Outcome}
+use Rattle.model.specs.{declared.Op.TheVariants.Step, Tables.Queue}
 use Rattle.model.{specs.{Calls.act, Lists.All}, proofs.Lists.All.{all_map, all_append}}
 use Rattle.schedule_model.specs.Schedules.{Schedule, ends, begun, at_work, both_answered, onwards, through}
 use Rattle.schedule_model.specs.{Schedules.schedules, Next.precedes, Claims.{Pairwise, InOrder, begins, Apart}}
@@ -20,8 +22,8 @@ pub through_starts : (q : Queue) (t : ℕ) (l : List Schedule) → All (Starts t
 through_starts q t l = go (at_work q t) (act q t Step).outcome
   where
     go : (b : Bool) (a : Outcome) → All (Starts t) (cond b (onwards t a l) [])
-    go true (Refused why) = (([], refl), tt)
-    go true (Moved a) = begun_starts t l
+    go true (Err why) = (([], refl), tt)
+    go true (Ok a) = begun_starts t l
     go false a = tt
 
 -- A relation that steps in common keep, and that holds where the schedules part.
@@ -42,8 +44,8 @@ module _ (R : List ℕ → List ℕ → Type 0) (common : (t : ℕ) (g s : List 
   through-pairs q t l o = go (at_work q t) (act q t Step).outcome
     where
       go : (b : Bool) (a : Outcome) → Pairwise S (cond b (onwards t a l) [])
-      go true (Refused why) = (tt, tt)
-      go true (Moved a) = begun-pairs t l o
+      go true (Err why) = (tt, tt)
+      go true (Ok a) = begun-pairs t l o
       go false a = tt
 
   append_pairs : (l m : List Schedule) → Pairwise S l → Pairwise S m → All (Starts 0) l → All (Starts 1) m → Pairwise S (l ++ m)

@@ -1,4 +1,5 @@
 -- The search finds the first schedule after the remembered list in dictionary order.
+use Rattle.std.specs.Prelude.{Err, Ok}
 use mathlib.Core.{Path.{◌≡◌, refl, sym, ap, ◌∙◌}, Bool.{Bool, true, false, ◌||◌, ◌&&◌, not, cond}}
 use mathlib.Core.List.{List, [], ◌∷◌, ◌++◌, map}
 use Prim.Native.Nat.{ℕ, zero, suc, ◌+◌, ◌-◌, ◌<◌, ◌≤◌}
@@ -6,7 +7,8 @@ use native.Mathlib.Omega.{arith}
 use lib.{Dec.{ltb, eqb, leb}, Arith.lt_of_le-ne, ListN.{length, get_or, take, drop, length-drop}}
 use lib.Seq.{drop-cons, get_or-take, get_or-drop, length-take-le}
 use borrow.Author.Tests.{leb-true, ltb-true, ltb-false, eqb-true, eqb-false, lt-ltb, le-ltb, eq-eqb, ne_eqb}
-use Rattle.model.specs.{declared.{Outcome.{Outcome, TheVariants.{Refused, Moved}}, Op.TheVariants.Step}, Tables.Queue}
+use Rattle.model.specs.Outcomes.{Outcome}
+use Rattle.model.specs.{declared.Op.TheVariants.Step, Tables.Queue}
 use Rattle.model.{specs.Calls.act, proofs.Tests.Truth.by_test}
 use Rattle.schedule_model.specs.Schedules.{Schedule, ends, begun, at_work, both_answered, onwards, through}
 use Rattle.schedule_model.specs.Schedules.{schedules, all_schedules}
@@ -70,18 +72,18 @@ nil_after t h (s ∷ l) = refl
 
 -- A refused step leaves one schedule, and nothing below it is looked at.
 abbrev below : Outcome → List Schedule → List Schedule
-below (Refused why) l = ends 2 ∷ []
-below (Moved a) l = l
+below (Err why) l = ends 2 ∷ []
+below (Ok a) l = l
 
 onwards-is : (t : ℕ) (a : Outcome) (l : List Schedule) → onwards t a l ≡ map (begun t) (below a l)
-onwards-is t (Refused why) l = refl
-onwards-is t (Moved a) l = refl
+onwards-is t (Err why) l = refl
+onwards-is t (Ok a) l = refl
 
 stepped-is : (t : ℕ) (a : Outcome) (f : Bool) (g : List ℕ) (l : List Schedule) → stepped t a f (pick f g l) ≡ prefixed t (pick f g (below a l))
 unfolding first_after precedes
-stepped-is t (Refused why) true g l = refl
-stepped-is t (Refused why) false g l = refl
-stepped-is t (Moved a) f g l = refl
+stepped-is t (Err why) true g l = refl
+stepped-is t (Err why) false g l = refl
+stepped-is t (Ok a) f g l = refl
 
 -- Task t, where any schedule will do; where the list is at its end; where u stands next in it and g after that.
 module _ (t : ℕ) (a : Outcome) (l : List Schedule) where

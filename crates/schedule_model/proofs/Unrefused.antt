@@ -1,10 +1,12 @@
 -- From an accepted opening on no call is refused 34, and no schedule is marked refused.
+use Rattle.std.specs.Prelude.{Err, Ok}
 use mathlib.Core.{Path.{◌≡◌, refl, ap, subst}, Bool.{true, not}, List.{List, [], ◌∷◌, ◌++◌, map}, Logic.◌≢◌}
 use Prim.Native.Nat.{ℕ, zero, suc, ◌<◌}
 use native.Mathlib.Omega.{arith}
 use lib.Dec.{eqb}
 use borrow.Author.Tests.{eqb-true}
-use Rattle.model.specs.declared.{Entry.Entry, Outcome.{Outcome, TheVariants.{Refused, Moved}}, Op.TheVariants.Step}
+use Rattle.model.specs.Outcomes.{Outcome, Refused}
+use Rattle.model.specs.declared.{Entry.Entry, Op.TheVariants.Step}
 use Rattle.model.specs.{Tables.Queue, Walk.is_broken, Standing.Standing, Lists.All, Calls.{act, open_as}}
 use Rattle.model.specs.History.{Event, NeverUnsound, Request, final, run}
 use Rattle.model.proofs.{Tests.{Rules.{◌and◌, never}, Truth.by_test}, Never34.never_34, Standing.standing}
@@ -45,8 +47,8 @@ unfolding final
 through_unmarked q t l h low k = by_test Unmarked (at_work q t) (λ busy. go busy (act q t Step).outcome refl) (λ _. tt)
   where
     go : at_work q t ≡ true → (o : Outcome) → (act q t Step).outcome ≡ o → Unmarked (onwards t o l)
-    go busy (Refused n) e = absurd (h [] t n low busy e)
-    go busy (Moved a) e = unmarked_begun t l k
+    go busy (Err refusal) e = absurd (h [] t refusal.number low busy e)
+    go busy (Ok a) e = unmarked_begun t l k
 
 all_unmarked : (n : ℕ) (q : Queue) → Steady q → Unmarked (schedules q n)
 unfolding schedules

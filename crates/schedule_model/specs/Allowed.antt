@@ -1,8 +1,10 @@
 -- Which schedules the tables allow, of any list of tasks. (Document 02, #107.)
+use Rattle.std.specs.Prelude.{Err, Ok}
 use mathlib.Core.{Path.◌≡◌, Bool.{Bool, true, false, ◌||◌, cond}, List.{List, [], ◌∷◌, ◌++◌, Memᴰ}}
 use Rattle.std.specs.Prelude.{ℕ, ◌<◌}
 use lib.{Dec.eqb, ListN.length}
-use Rattle.model.specs.{declared.{Outcome.{Outcome, TheVariants.{Refused, Moved}}, Op.TheVariants.Step}, Tables.Queue}
+use Rattle.model.specs.Outcomes.{Outcome}
+use Rattle.model.specs.{declared.Op.TheVariants.Step, Tables.Queue}
 use Rattle.model.specs.{Calls.act, History.{Request, final}}
 use Rattle.schedule_model.specs.Schedules.{Schedule, answered_both, was_cut, was_refused, at_work, both_answered}
 use Rattle.schedule_model.specs.Schedules.{all_schedules}
@@ -16,8 +18,8 @@ abbrev pub after : Queue → List ℕ → Queue
 after q ts = final q (tries ts)
 
 abbrev pub is_refused : Outcome → Bool
-is_refused (Refused why) = true
-is_refused (Moved a) = false
+is_refused (Err refusal) = true
+is_refused (Ok a) = false
 
 -- The last of these steps is refused.
 unfoldable pub last_refused : Queue → List ℕ → Bool

@@ -2,7 +2,8 @@
 use mathlib.Core.{Path.◌≡◌, Logic.◌≢◌, Bool.{Bool, true, false, ◌&&◌, cond}, List.{List, [], ◌∷◌, ◌++◌, map}}
 use Rattle.std.specs.Prelude.{ℕ, zero, suc, ◌+◌, ◌<◌}
 use lib.{Dec.eqb, ListN.{length, get_or, take, drop, replicate}}
-use Rattle.model.specs.{declared.{Entry.Entry, Outcome.TheVariants.Refused, Op.TheVariants.Step}, Tables.Queue}
+use Rattle.model.specs.Outcomes.{Refused}
+use Rattle.model.specs.{declared.{Entry.Entry, Op.TheVariants.Step}, Tables.Queue}
 use Rattle.model.specs.{Calls.act, Standing.Standing, Lists.All, History.{AfterOpening, NeverUnsound, Request, final}}
 use Rattle.schedule_model.specs.Schedules.{Schedule, said_no_more, was_refused, at_work, schedules, all_schedules}
 use Rattle.schedule_model.specs.Allowed.{after}

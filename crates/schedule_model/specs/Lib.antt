@@ -1,4 +1,5 @@
 pub mod Schedules
+pub mod Endings
 pub mod Allowed
 pub mod Next
 pub mod Claims

@@ -1,7 +1,9 @@
 -- Every order for two tasks. (Document 02, #107.)
+use Rattle.std.specs.Prelude.{Err, Ok}
 use mathlib.Core.{Bool.{Bool, ◌||◌, not, cond}, List.{List, [], ◌∷◌, ◌++◌, map}}
 use Rattle.std.specs.Prelude.{ℕ, zero, suc}
-use Rattle.model.specs.{declared.{Outcome.{Outcome, TheVariants.{Refused, Moved}}, Op.TheVariants.Step}, Calls.act}
+use Rattle.model.specs.Outcomes.{Outcome}
+use Rattle.model.specs.{declared.Op.TheVariants.Step, Calls.act}
 use Rattle.model.specs.{Tables.{Queue, record_at}, Refusals.is_busy}
 
 -- How a schedule ends, by the number that the caller reads: both calls answered, cut, its last step refused. There is none: no more.
@@ -39,8 +41,8 @@ both_answered q = not (at_work q 0 || at_work q 1)
 
 -- A step refused is the last; after any other come the schedules l of the queue that it left.
 abbrev pub onwards : ℕ → Outcome → List Schedule → List Schedule
-onwards t (Refused why) l = begun t (ends was_refused) ∷ []
-onwards t (Moved a) l = map (begun t) l
+onwards t (Err refusal) l = begun t (ends was_refused) ∷ []
+onwards t (Ok a) l = map (begun t) l
 
 -- Those that begin with task t, if it is still busy.
 abbrev pub through : Queue → ℕ → List Schedule → List Schedule

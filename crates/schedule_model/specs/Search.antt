@@ -1,8 +1,9 @@
 -- The search for the next schedule, as the code makes it: down the tree of steps, task 0 first, where the remembered list lets it.
 use mathlib.Core.{Bool.{Bool, ◌&&◌, ◌||◌, not, cond}, List.List}
-use Rattle.std.specs.Prelude.{ℕ, zero, suc, ◌-◌}
+use Rattle.std.specs.Prelude.{ℕ, zero, suc, ◌-◌, Err, Ok}
 use lib.{Dec.{ltb, eqb}, ListN.get_or}
-use Rattle.model.specs.{declared.Outcome.{Outcome, TheVariants.{Refused, Moved}}, Tables.Queue, Calls.Done}
+use Rattle.model.specs.Outcomes.{Outcome}
+use Rattle.model.specs.{Tables.Queue, Calls.Done}
 use Rattle.schedule_model.specs.Schedules.{Schedule, answered_both, was_cut, was_refused, ends, begun, at_work}
 use Rattle.schedule_model.specs.{Schedules.both_answered, Next.{Next, given, no_more}}
 
@@ -20,8 +21,8 @@ prefixed t no_more = no_more
 
 -- m: what is found below.
 abbrev pub stepped : ℕ → Outcome → Bool → Next → Next
-stepped t (Refused why) free m = ended free (begun t (ends was_refused))
-stepped t (Moved a) free m = prefixed t m
+stepped t (Err refusal) free m = ended free (begun t (ends was_refused))
+stepped t (Ok a) free m = prefixed t m
 
 -- ws: the memory; len: the length of its list. With so many steps to go the list still binds, and names a task that may be next.
 abbrev pub bound : ℕ → ℕ → Bool → Bool

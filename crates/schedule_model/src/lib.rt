@@ -1,6 +1,35 @@
 //! Every order for two tasks: the answer by value. What it means is in `specs/`.
 #![tactic(auto)]
 
+ghost use Rattle.std.specs.Prelude.{◌≡◌};
+ghost use Rattle.schedule_model.specs.Endings.{number_of};
+
+/// How a schedule ends, or that there is none.
+#[derive(Clone, Copy)]
+pub enum Ending {
+    /// Both calls are answered.
+    Answered,
+    /// A call is unanswered, and no step is left.
+    Cut,
+    /// The last step was refused.
+    Refused,
+    NoMore,
+}
+
+/// As C reads it.
+impl From<Ending> for u64 {
+    ghost from_gives = { λ e n. n ≡ number_of e };
+
+    fn from(e: Ending) -> u64 {
+        match e {
+            Ending::Answered => 0,
+            Ending::Cut => 1,
+            Ending::Refused => 2,
+            Ending::NoMore => 3,
+        }
+    }
+}
+
 /// The answer as C sees it.
 #[repr(C)]
 #[derive(Clone, Copy)]

@@ -3,13 +3,15 @@ use mathlib.Core.{Path.{◌≡◌, refl, sym, ap, ◌∙◌}, Bool.{Bool, true, 
 use Prim.Native.Nat.{ℕ, zero, suc, ◌+◌, ◌-◌, ◌<◌, ◌≤◌}
 use native.Mathlib.Omega.{arith}
 use borrow.Author.Tests.{ne_eqb}
+use Rattle.std.specs.Prelude.{Option, Some, None, is_some}
 use Rattle.model.{specs.Tables.{Queue, tables_of}, proofs.Tests.Truth.not_both}
 use Rattle.schedule_model.specs.{Schedules.{ends, both_answered}, Next.{Next, given, no_more}}
 use Rattle.schedule_model.specs.Search.{ended, or_else, frees, tried, seek_by}
+use Rattle.schedule_model.specs.{declared.Ending.Ending, declared.Ending.TheVariants.{Answered, Cut, Refused}, Endings.number_of}
 use Rattle.schedule_search.specs.{declared.Found.Found, Stepped.moved, Sought.under}
-use Rattle.schedule_search.specs.Sought.{seeking, branch, found_of, written, Sought, sought, goes_on, ends_here}
+use Rattle.schedule_search.specs.Sought.{seeking, branch, found_of, written, Sought, sought, ends_here}
 
-abbrev pub handed : Found → List ℕ → Queue → Sought
+abbrev pub handed : Option Found → List ℕ → Queue → Sought
 handed f ws q = record { found = f; memory = ws; queue = q }
 
 -- A search that ends here: nothing is stored.
@@ -17,18 +19,17 @@ stops : (free : Bool) (i e : ℕ) (ws : List ℕ) → written i (ended free (end
 stops true i e ws = refl
 stops false i e ws = refl
 
-ends_as : (f : Found) (left e : ℕ) (free : Bool) (ws : List ℕ) (q : Queue) (m : Next) → m ≡ ended free (ends e)
+ends_as : (f : Option Found) (left e : ℕ) (free : Bool) (ws : List ℕ) (q : Queue) (m : Next) → m ≡ ended free (ends e)
     → f ≡ found_of (48 - left) (ended free (ends e)) → handed f ws q ≡ sought left ws m q
 unfolding sought
 ends_as f left e free ws q m k h = (λ i. handed (h i) (sym (stops free (49 - left) e ws) i) q) ∙ ap (λ (x : Next). sought left ws x q) (sym k)
 
-pub none_here : (f : Found) (left : ℕ) (ws : List ℕ) (q : Queue) → f ≡ record { found = false; length = 0; ending = 0 } → handed f ws q
-    ≡ sought left ws no_more q
+pub none_here : (left : ℕ) (ws : List ℕ) (q : Queue) → handed None ws q ≡ sought left ws no_more q
 unfolding sought
-none_here f left ws q h = λ i. handed (h i) ws q
+none_here left ws q = refl
 
 -- The whole search, in rows of its own: what is left in those matters to nobody.
-pub by_value : (f : Found) (ws ws' : List ℕ) (m : Next) (q q' : Queue) → handed f ws' q' ≡ sought 48 ws m q
+pub by_value : (f : Option Found) (ws ws' : List ℕ) (m : Next) (q q' : Queue) → handed f ws' q' ≡ sought 48 ws m q
     → (let r = q'.tables in
     handed f ws' (record { tables = tables_of q.tables.control r.lefts r.rights r.labels r.marks r.next; records = q.records }))
     ≡ sought 48 ws m q
@@ -45,11 +46,11 @@ pub record Goes (stopped both : Bool) (left : ℕ) : Type 0 where
   pub busy : both ≡ false
   pub some : 0 < left
 
-pub goes_on_lem : (s b : Bool) (left e : ℕ) → e ≡ ends_here s b left → e ≡ goes_on → Goes s b left
-goes_on_lem true b left e h k = absurd (omega (arith, h, k))
-goes_on_lem false true left e h k = absurd (omega (arith, h, k))
-goes_on_lem false false zero e h k = absurd (omega (arith, h, k))
-goes_on_lem false false (suc n) e h k = record { moved = refl; busy = refl; some = omega arith }
+pub goes_on_lem : (s b : Bool) (left : ℕ) → None ≡ ends_here s b left → Goes s b left
+goes_on_lem true b left h = absurd (cc)
+goes_on_lem false true left h = absurd (cc)
+goes_on_lem false false zero h = absurd (cc)
+goes_on_lem false false (suc n) h = record { moved = refl; busy = refl; some = omega arith }
 
 module _ (ws : List ℕ) (len : ℕ) (free : Bool) (q : Queue) where
   abbrev found_by : ℕ → Next → Sought
@@ -60,21 +61,21 @@ module _ (ws : List ℕ) (len : ℕ) (free : Bool) (q : Queue) where
   over zero e = rw e refl
   over (suc n) e = rw e refl
 
-  -- The schedule ends, as the code finds it: e, which is an ending.
-  ends_so : (s : Bool) (left e : ℕ) → e ≡ ends_here s (both_answered q) left → (e ≡ goes_on → ⊥)
-      → under s free (seeking ws len left free q) ≡ ended free (ends e)
+  -- The schedule ends, as the code finds it.
+  ends_so : (s : Bool) (left : ℕ) (e : Ending) → Some e ≡ ends_here s (both_answered q) left
+      → under s free (seeking ws len left free q) ≡ ended free (ends (number_of e))
   unfolding seek_by
-  ends_so true left e h n = ap (λ (k : ℕ). ended free (ends k)) (sym h)
-  ends_so false left e h n = go left (both_answered q) refl h
+  ends_so true left e h = let z : Refused ≡ e = cc in ap (λ (k : Ending). ended free (ends (number_of k))) z
+  ends_so false left e h = go left (both_answered q) refl h
     where
-      go : (left : ℕ) (x : Bool) → both_answered q ≡ x → e ≡ ends_here false x left → seeking ws len left free q ≡ ended free (ends e)
-      go left true y h = over left y ∙ ap (λ (k : ℕ). ended free (ends k)) (sym h)
-      go zero false y h = rw y (ap (λ (k : ℕ). ended free (ends k)) (sym h))
-      go (suc k) false y h = absurd (n (h ∙ rw (ne_eqb (suc k) 0 (λ z. omega (arith, z))) refl))
+      go : (left : ℕ) (x : Bool) → both_answered q ≡ x → Some e ≡ ends_here false x left → seeking ws len left free q ≡ ended free (ends (number_of e))
+      go left true y h = let z : Answered ≡ e = cc in over left y ∙ ap (λ (k : Ending). ended free (ends (number_of k))) z
+      go zero false y h = let z : Cut ≡ e = cc in rw y (ap (λ (k : Ending). ended free (ends (number_of k))) z)
+      go (suc k) false y h = absurd (let z : None ≡ Some e = sym (h ∙ rw (ne_eqb (suc k) 0 (λ x. omega (arith, x)))) in cc)
 
-  pub ends-here : (f : Found) (s : Bool) (left e : ℕ) → e ≡ ends_here s (both_answered q) left → (e ≡ goes_on → ⊥)
-      → f ≡ found_of (48 - left) (ended free (ends e)) → handed f ws q ≡ found_by left (under s free (seeking ws len left free q))
-  ends-here f s left e h n k = ends_as f left e free ws q (under s free (seeking ws len left free q)) (ends_so s left e h n) k
+  pub ends-here : (f : Option Found) (s : Bool) (left : ℕ) (e : Ending) → Some e ≡ ends_here s (both_answered q) left
+      → f ≡ found_of (48 - left) (ended free (ends (number_of e))) → handed f ws q ≡ found_by left (under s free (seeking ws len left free q))
+  ends-here f s left e h k = ends_as f left (number_of e) free ws q (under s free (seeking ws len left free q)) (ends_so s left e h) k
 
   -- What is found from task t on.
   abbrev pub rest : ℕ → ℕ → Next
@@ -105,14 +106,14 @@ pub record Turn (ws ws' : List ℕ) (len : ℕ) (free : Bool) (q q' : Queue) (le
 
 module _ (ws : List ℕ) (len : ℕ) (free : Bool) (q : Queue) (left : ℕ) where
   -- Where task t leads to a schedule, that is it; else the next is tried.
-  first_found : (t : ℕ) (f : Found) (ws' : List ℕ) (q' : Queue) → t < 2 → handed f ws' q' ≡ sought left ws (branch ws len left free q t) q
-      → f.found ≡ true → handed f ws' q' ≡ sought left ws (rest ws len free q left t) q
+  first_found : (t : ℕ) (f : Option Found) (ws' : List ℕ) (q' : Queue) → t < 2 → handed f ws' q' ≡ sought left ws (branch ws len left free q t) q
+      → is_some f ≡ true → handed f ws' q' ≡ sought left ws (rest ws len free q left t) q
   unfolding sought
   first_found zero f ws' q' low e h = go (branch ws len left free q 0) e
     where
       go : (x : Next) → handed f ws' q' ≡ sought left ws x q → handed f ws' q' ≡ sought left ws (or_else x (branch ws len left free q 1)) q
       go (given s) e = e
-      go no_more e = absurd (not_both h (ap (λ (s : Sought). s.found.found) e))
+      go no_more e = absurd (not_both h (ap (λ (s : Sought). is_some s.found) e))
   first_found (suc zero) f ws' q' low e h = e
   first_found (suc (suc t)) f ws' q' low e h = absurd (omega (arith, low))
 
@@ -121,9 +122,9 @@ module _ (ws : List ℕ) (len : ℕ) (free : Bool) (q : Queue) (left : ℕ) wher
     queue : q' ≡ q
     none : x ≡ no_more
 
-  not_found : (f : Found) (ws' : List ℕ) (q' : Queue) (x : Next) → handed f ws' q' ≡ sought left ws x q → f.found ≡ false → Nothing ws' q' x
+  not_found : (f : Option Found) (ws' : List ℕ) (q' : Queue) (x : Next) → handed f ws' q' ≡ sought left ws x q → is_some f ≡ false → Nothing ws' q' x
   unfolding sought
-  not_found f ws' q' (given s) e h = absurd (not_both (ap (λ (s : Sought). s.found.found) e) h)
+  not_found f ws' q' (given s) e h = absurd (not_both (ap (λ (s : Sought). is_some s.found) e) h)
   not_found f ws' q' no_more e h =
       record { memory = ap (λ (s : Sought). s.memory) e; queue = ap (λ (s : Sought). s.queue) e; none = refl }
 
@@ -140,20 +141,20 @@ module _ (ws : List ℕ) (len : ℕ) (free : Bool) (q : Queue) (left : ℕ) wher
 module _ (ws : List ℕ) (len : ℕ) (free : Bool) (q : Queue) (left t : ℕ) (m : Next) (ws₁ : List ℕ) (q₁ : Queue)
     (so_far : Turn ws ws₁ len free q q₁ left t m) where
   -- The turn of task t, told of what the turns before left.
-  at_first : (f : Found) (ws' : List ℕ) (q' : Queue) → handed f ws' q' ≡ sought left ws₁ (branch ws₁ len left free q₁ t) q₁
+  at_first : (f : Option Found) (ws' : List ℕ) (q' : Queue) → handed f ws' q' ≡ sought left ws₁ (branch ws₁ len left free q₁ t) q₁
       → handed f ws' q' ≡ sought left ws (branch ws len left free q t) q
   at_first f ws' q' e =
       e
       ∙ ap (λ (l : List ℕ). sought left l (branch l len left free q₁ t) q₁) so_far.memory
       ∙ ap (λ (p : Queue). sought left ws (branch ws len left free p t) p) so_far.queue
 
-  pub turn_found : (f : Found) (ws' : List ℕ) (q' : Queue) → t < 2 → handed f ws' q' ≡ sought left ws₁ (branch ws₁ len left free q₁ t) q₁
-      → f.found ≡ true → handed f ws' q' ≡ sought left ws m q
+  pub turn_found : (f : Option Found) (ws' : List ℕ) (q' : Queue) → t < 2 → handed f ws' q' ≡ sought left ws₁ (branch ws₁ len left free q₁ t) q₁
+      → is_some f ≡ true → handed f ws' q' ≡ sought left ws m q
   turn_found f ws' q' low e h =
       first_found ws len free q left t f ws' q' low (at_first f ws' q' e) h ∙ ap (λ (x : Next). sought left ws x q) (sym so_far.found)
 
-  pub turn_on : (f : Found) (ws' : List ℕ) (q' : Queue) → t < 2 → handed f ws' q' ≡ sought left ws₁ (branch ws₁ len left free q₁ t) q₁
-      → f.found ≡ false → Turn ws ws' len free q q' left (t + 1) m
+  pub turn_on : (f : Option Found) (ws' : List ℕ) (q' : Queue) → t < 2 → handed f ws' q' ≡ sought left ws₁ (branch ws₁ len left free q₁ t) q₁
+      → is_some f ≡ false → Turn ws ws' len free q q' left (t + 1) m
   turn_on f ws' q' low e h =
       let n = not_found ws len free q left f ws' q' (branch ws len left free q t) (at_first f ws' q' e) h in
       let next : suc t ≡ t + 1 = omega arith in
@@ -164,9 +165,9 @@ module _ (ws : List ℕ) (len : ℕ) (free : Bool) (q : Queue) (left t : ℕ) (m
         found = so_far.found ∙ skipped ws len free q left t low n.none ∙ ap (rest ws len free q left) next;
       }
 
-  pub turns-over : (f : Found) → 2 ≤ t → f ≡ record { found = false; length = 0; ending = 0 } → handed f ws₁ q₁ ≡ sought left ws m q
-  turns-over f h e =
-      none_here f left ws₁ q₁ e
+  pub turns-over : 2 ≤ t → handed None ws₁ q₁ ≡ sought left ws m q
+  turns-over h =
+      none_here left ws₁ q₁
       ∙ ap (λ (l : List ℕ). sought left l no_more q₁) so_far.memory
       ∙ ap (sought left ws no_more) so_far.queue
       ∙ ap (λ (x : Next). sought left ws x q) (sym (so_far.found ∙ past ws len free q left t h))

@@ -1,10 +1,12 @@
 -- A step, what is found below it, and back: the queue is as before, and the step stands in the memory.
+use Rattle.std.specs.Prelude.{Err, Ok}
 use mathlib.Core.{Path.{◌≡◌, refl, sym, ap, subst, ◌∙◌}, Bool.{Bool, true, false, ◌||◌, not, cond}}
 use mathlib.Core.List.{List, [], ◌∷◌}
 use Prim.Native.Nat.{ℕ, suc, ◌+◌, ◌-◌, ◌<◌, ◌≤◌}
 use native.Mathlib.Omega.{arith}
 use lib.{Dec.eqb, ListN.{length, get_or, set}, Seq.{sets, set_comm, set-get_or, set-set}}
-use Rattle.model.specs.declared.{Call.Call, Record.Record, Outcome.{Outcome, TheVariants.{Refused, Moved}}}
+use Rattle.model.specs.Outcomes.{Outcome}
+use Rattle.model.specs.declared.{Call.Call, Record.Record}
 use Rattle.model.specs.{Tables.{Tables, Queue, tables_of, task_at, unused}, Ends.is_moved, Places.{row, word_found}}
 use Rattle.model.{specs.{Refusals.step_sound, Calls.{Acted, finish, Done, back}}, proofs.Tests.Truth.either}
 use Rattle.engine.{specs.StepAdmitted.step_admitted, proofs.InParts.{fault, here}}
@@ -17,11 +19,12 @@ use Rattle.schedule_model.proofs.Undone.{undoes}
 use Rattle.schedule_search.specs.{declared.{Found.Found, undo.Kept.Kept}, Stepped.{moved, Steps, restored}}
 use Rattle.schedule_search.specs.Sought.{seeking, branch, choice, found_of, written, Sought, sought, under}
 use Rattle.schedule_search.proofs.Seeking.{handed, none_here}
+use Rattle.std.specs.Prelude.{Option, Some, None, is_some}
 
 stepped-is : (t : ℕ) (o : Outcome) (free : Bool) (m : Next) → stepped t o free m ≡ prefixed t (under (not (is_moved o)) free m)
-stepped-is t (Refused why) true m = refl
-stepped-is t (Refused why) false m = refl
-stepped-is t (Moved a) free m = refl
+stepped-is t (Err why) true m = refl
+stepped-is t (Err why) false m = refl
+stepped-is t (Ok a) free m = refl
 
 -- A word stored before the run of words above it, or after.
 pub sets_above : (l s : List ℕ) (i j t : ℕ) → j < i → set (sets l i s) j t ≡ sets (set l j t) i s
@@ -35,11 +38,11 @@ module _ (left t : ℕ) (some : 0 < left) (few : left ≤ 48) where
   prefix_found : (m : Next) → found_of (48 - (left - 1)) m ≡ found_of (48 - left) (prefixed t m)
   prefix_found (given s) =
       let z : 48 - (left - 1) + length s.steps ≡ 48 - left + suc (length s.steps) = omega (arith, some, few) in
-      ap (λ (n : ℕ). record { found = true; length = n; ending = s.ending }) z
+      ap (λ (n : ℕ). Some (record { length = n; ending = s.ending })) z
   prefix_found no_more = refl
 
   prefix_written : (m : Next) (ws : List ℕ)
-      → cond (found_of (48 - (left - 1)) m).found (set (written (49 - (left - 1)) m ws) (49 - left) t) (written (49 - (left - 1)) m ws)
+      → cond (is_some (found_of (48 - (left - 1)) m)) (set (written (49 - (left - 1)) m ws) (49 - left) t) (written (49 - (left - 1)) m ws)
       ≡ written (49 - left) (prefixed t m) ws
   prefix_written no_more ws = refl
   prefix_written (given s) ws =
@@ -104,33 +107,30 @@ module _ (ws : List ℕ) (len left : ℕ) (free : Bool) (q : Queue) (t : ℕ) wh
   abbrev skip : Bool
   skip = not (at_work q t) || skips ws len left free t
 
-  passing : (skip any : Bool) (c : ℕ) → c ≡ cond skip 0 (cond any 2 1) → c ≡ 0 → skip ≡ true
-  passing true any c e h = refl
-  passing false true c e h = absurd (omega (arith, e, h))
-  passing false false c e h = absurd (omega (arith, e, h))
+  passing : (skip any : Bool) → None ≡ cond skip None (Some any) → skip ≡ true
+  passing true any e = refl
+  passing false any e = absurd (cc)
 
-  going : (skip any : Bool) (c : ℕ) → c ≡ cond skip 0 (cond any 2 1) → (c ≡ 0 → ⊥) → (skip ≡ false) × (eqb c 2 ≡ any)
-  going true any c e h = absurd (h e)
-  going false true c e h = (refl, rw e refl)
-  going false false c e h = (refl, rw e refl)
+  going : (skip any c : Bool) → Some c ≡ cond skip None (Some any) → (skip ≡ false) × (c ≡ any)
+  going true any c e = absurd (cc)
+  going false any c e = (refl, cc)
 
-  pub passed_over : (c : ℕ) (f : Found) → c ≡ choice ws len left free q t → c ≡ 0 → f ≡ record { found = false; length = 0; ending = 0 }
-      → handed f ws q ≡ sought left ws (branch ws len left free q t) q
-  passed_over c f e none h = rw (passing skip (frees ws len left free t) c e none) (none_here f left ws q h)
+  pub passed_over : None ≡ choice ws len left free q t → handed None ws q ≡ sought left ws (branch ws len left free q t) q
+  passed_over e = rw (passing skip (frees ws len left free t) e) (none_here left ws q)
 
   -- k: what is kept; the queue and the memory after the step (₁), after the search below it ('), and after putting back ('').
-  pub there_and_back : 0 < left → left ≤ 48 → (c : ℕ) (k : Kept) (q₁ q' q'' : Queue) (f : Found) (ws' ws'' : List ℕ)
-      → c ≡ choice ws len left free q t → (c ≡ 0 → ⊥) → Steps q t k q₁
-      → handed f ws' q' ≡ sought (left - 1) ws (under k.stopped (eqb c 2) (seeking ws len (left - 1) (eqb c 2) q₁)) q₁
+  pub there_and_back : 0 < left → left ≤ 48 → (c : Bool) (k : Kept) (q₁ q' q'' : Queue) (f : Option Found) (ws' ws'' : List ℕ)
+      → Some c ≡ choice ws len left free q t → Steps q t k q₁
+      → handed f ws' q' ≡ sought (left - 1) ws (under k.stopped c (seeking ws len (left - 1) c q₁)) q₁
       → q'' ≡ restored k t q'
-      → ws'' ≡ cond f.found (set ws' (49 - left) t) ws'
+      → ws'' ≡ cond (is_some f) (set ws' (49 - left) t) ws'
       → handed f ws'' q'' ≡ sought left ws (branch ws len left free q t) q
   unfolding sought
-  there_and_back some few c k q₁ q' q'' f ws' ws'' chosen goes step found put noted =
+  there_and_back some few c k q₁ q' q'' f ws' ws'' chosen step found put noted =
       let d = moved q t in
       let beneath : Bool → Bool → Queue → Next = λ stopped any p. under stopped any (seeking ws len (left - 1) any p) in
       let any = frees ws len left free t in
-      let may = going skip any c chosen goes in
+      let may = going skip any c chosen in
       let u = beneath (not (is_moved d.outcome)) any d.queue in
       let all : handed f ws' q' ≡ sought (left - 1) ws u d.queue =
       found
@@ -142,8 +142,8 @@ module _ (ws : List ℕ) (len left : ℕ) (free : Bool) (q : Queue) (t : ℕ) wh
       let ms : ws' ≡ written (49 - (left - 1)) u ws = ap (λ (z : Sought). z.memory) all in
       let memory : ws'' ≡ written (49 - left) (prefixed t u) ws =
       noted
-      ∙ ap (λ (g : Found). cond g.found (set ws' (49 - left) t) ws') fs
-      ∙ ap (λ (l : List ℕ). cond (found_of (48 - (left - 1)) u).found (set l (49 - left) t) l) ms
+      ∙ ap (λ (g : Option Found). cond (is_some g) (set ws' (49 - left) t) ws') fs
+      ∙ ap (λ (l : List ℕ). cond (is_some (found_of (48 - (left - 1)) u)) (set l (49 - left) t) l) ms
       ∙ prefix_written left t some few u ws
       in
       let queue : q'' ≡ q = put ∙ ap (λ (z : Sought). restored k t z.queue) all ∙ all_back q q₁ t k step in

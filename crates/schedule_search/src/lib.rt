@@ -2,63 +2,56 @@
 #![tactic(auto)]
 
 ghost use mathlib.Core.{Path.◌≡◌, Bool.{cond, false}, List.{[], ◌∷◌}};
-ghost use Rattle.std.specs.Prelude.{◌≤◌, ◌<◌, set};
+ghost use Rattle.std.specs.Prelude.{◌≤◌, ◌<◌, set, is_some};
 ghost use Rattle.model.specs.Tables.{Tables};
 ghost use Rattle.layout.specs.Rows.{records_of, queue_in};
-ghost use Rattle.schedule_model.specs.{Schedules.{ends, both_answered}, Search.ended};
+ghost use Rattle.schedule_model.specs.{Endings.number_of, Schedules.{ends, both_answered}, Search.ended};
 ghost use Rattle.schedule_search.specs.Sought.{seeking, branch, choice, found_of, Sought, sought, ends_here, under};
 
 mod undo;
 
-/// Whether a schedule was found, its length, and how it ends.
+use schedule_model::Ending;
+use undo::Rows;
+
+/// A schedule's length, and how it ends, by the number that C reads.
+// A number and no `Ending`, since a `Schedule` of `schedule_model/specs` ends with one, which `zc_next_schedule` tells.
 #[derive(Clone, Copy)]
 pub struct Found {
-    pub found: bool,
     pub length: u64,
     pub ending: u64,
 }
 
 /// A schedule that ends here, after so many steps, if any schedule will do.
-fn ended(free: bool, made: u64, ending: u64) -> Found
-    ensures { result ≡ found_of made (ended free (ends ending)) }
+fn ended(free: bool, made: u64, ending: Ending) -> Option<Found>
+    ensures { result ≡ found_of made (ended free (ends (number_of ending))) }
 {
     if free {
-        return Found {
-            found: true,
+        Some(Found {
             length: made,
-            ending,
-        };
-    }
-    none()
-}
-
-fn none() -> Found
-    ensures { result ≡ record { found = false; length = 0; ending = 0 } }
-{
-    Found {
-        found: false,
-        length: 0,
-        ending: 0,
+            ending: u64::from(ending),
+        })
+    } else {
+        None
     }
 }
 
-/// How a schedule ends here; 3: it goes on.
-fn ending(stopped: bool, pair: &[[u64; layout::RECORD_WORDS]; 2], left: u64) -> u64
+/// How a schedule ends here, if it doesn't go on.
+fn ending(stopped: bool, pair: &[[u64; layout::RECORD_WORDS]; 2], left: u64) -> Option<Ending>
     ensures { (q : Tables) → result ≡ ends_here stopped (both_answered (record { tables = q; records = records_of pair.now })) left }
 {
     if stopped {
-        return 2;
+        return Some(Ending::Refused);
     }
     let a = layout::call_at(pair, 0);
     let b = layout::call_at(pair, 1);
-    if !(!(a.place == 0) | !(b.place == 0)) {
-        return 0;
+    if (a.place == 0) & (b.place == 0) {
+        return Some(Ending::Answered);
     }
-    if left == 0 { 1 } else { 3 }
+    if left == 0 { Some(Ending::Cut) } else { None }
 }
 
-/// Whether task t may be next: 0 not, since it is idle or the given list forbids it; 1 bound by the rest of the list;
-/// 2 any schedule that goes on with it will do.
+/// Whether task t may be next: not where it is idle or the given list forbids it. If so, whether any schedule that goes on with
+/// it will do; else the rest of the list binds.
 fn choose(
     t: u64,
     pair: &[[u64; layout::RECORD_WORDS]; 2],
@@ -66,34 +59,28 @@ fn choose(
     free: bool,
     len: u64,
     given: &[u64],
-) -> u64
+) -> Option<bool>
     requires { left ≤ 48 }
     ensures { (q : Tables)
         → result ≡ choice given.now len left free (record { tables = q; records = records_of pair.now }) t }
 {
     let r = layout::call_at(pair, t as usize);
     if r.place == 0 {
-        return 0;
+        return None;
     }
-    if free {
-        return 2;
+    if free || len <= 48 - left {
+        return Some(true);
     }
-    if len <= 48 - left {
-        return 2;
-    }
-    let least = table::word_at(given, 49 - left);
-    if t < least {
-        return 0;
-    }
-    if t == least { 1 } else { 2 }
+    let least = table::get_or(given, 49 - left, 0);
+    if t < least { None } else { Some(t != least) }
 }
 
 /// A step of what was found is stored on the way back.
-fn note(f: Found, given: &mut [u64], at: u64, t: u64)
-    ensures { given.new ≡ cond f.found (set given.old at t) given.old }
+fn note(f: Option<Found>, given: &mut [u64], at: u64, t: u64)
+    ensures { given.new ≡ cond (is_some f) (set given.old at t) given.old }
 {
-    if f.found {
-        table::put_word(given, at, t);
+    if f.is_some() {
+        table::set(given, at, t);
     }
 }
 
@@ -109,7 +96,7 @@ pub fn search(
     labels: &mut [u32],
     marks: &mut [u64],
     next: &mut [u64],
-) -> Found
+) -> Option<Found>
     ensures { ◌≡◌ {A = Sought}
         (record {
           found = result;
@@ -120,22 +107,22 @@ pub fn search(
         let ws = given.old in
         sought 48 ws (seeking ws len 48 false q) q) }
 {
-    let mut words = control;
-    let mut pair = [a, b];
-    let stopped = false;
-    let free = false;
+    let mut rows = Rows {
+        control,
+        pair: [a, b],
+    };
     seek(
-        stopped, &mut words, &mut pair, 48, free, len, given, lefts, rights, labels, marks, next,
+        false, &mut rows, 48, false, len, given, lefts, rights, labels, marks, next,
     )
 }
 
 /// The first schedule from here on, with `left` steps to go, after a step that was refused (stopped) or made. free: any will
 /// do, else one after the given list of length `len`, which the steps so far follow.
+// `len` stays while the words of `given` change, so both in one struct would ask of each call to promise that `len` is as before.
 #[cycle(seek_through)]
 fn seek(
     stopped: bool,
-    control: &mut [u64; layout::CONTROL_WORDS],
-    pair: &mut [[u64; layout::RECORD_WORDS]; 2],
+    rows: &mut Rows,
     left: u64,
     free: bool,
     len: u64,
@@ -145,35 +132,32 @@ fn seek(
     labels: &mut [u32],
     marks: &mut [u64],
     next: &mut [u64],
-) -> Found
+) -> Option<Found>
     requires { left ≤ 48 }
     ensures { ◌≡◌ {A = Sought}
         (record {
           found = result;
           memory = given.new;
-          queue = queue_in control.new pair.new
+          queue = queue_in rows.new.control rows.new.pair
               lefts.new rights.new labels.new marks.new next.new;
         })
-        (let q = queue_in control.old pair.old
+        (let q = queue_in rows.old.control rows.old.pair
         lefts.old rights.old labels.old marks.old next.old in
         let ws = given.old in
         sought left ws (under stopped free (seeking ws len left free q)) q) }
 {
-    let e = ending(stopped, pair, left);
-    if e != 3 {
+    if let Some(e) = ending(stopped, &rows.pair, left) {
         return ended(free, 48 - left, e);
     }
-    let mut t: u64 = 0;
-    while t < 2 {
+    for t in 0..2 {
         let f = through(
-            t, control, pair, left, free, len, given, lefts, rights, labels, marks, next,
+            t, rows, left, free, len, given, lefts, rights, labels, marks, next,
         );
-        if f.found {
+        if f.is_some() {
             return f;
         }
-        t += 1;
     }
-    none()
+    None
 }
 
 /// Those that begin with task t, if it is busy and the given list lets it: steps it, goes on, and puts back what the step
@@ -181,8 +165,7 @@ fn seek(
 #[cycle(seek_through)]
 fn through(
     t: u64,
-    control: &mut [u64; layout::CONTROL_WORDS],
-    pair: &mut [[u64; layout::RECORD_WORDS]; 2],
+    rows: &mut Rows,
     left: u64,
     free: bool,
     len: u64,
@@ -192,32 +175,30 @@ fn through(
     labels: &mut [u32],
     marks: &mut [u64],
     next: &mut [u64],
-) -> Found
+) -> Option<Found>
     requires { (t < 2) × ((0 < left) × (left ≤ 48)) }
     ensures { ◌≡◌ {A = Sought}
         (record {
           found = result;
           memory = given.new;
-          queue = queue_in control.new pair.new
+          queue = queue_in rows.new.control rows.new.pair
               lefts.new rights.new labels.new marks.new next.new;
         })
-        (let q = queue_in control.old pair.old
+        (let q = queue_in rows.old.control rows.old.pair
         lefts.old rights.old labels.old marks.old next.old in
         let ws = given.old in
         sought left ws (branch ws len left free q t) q) }
 {
-    let c = choose(t, pair, left, free, len, given);
-    if c == 0 {
-        return none();
-    }
+    let Some(any) = choose(t, &rows.pair, left, free, len, given) else {
+        return None;
+    };
     let i = t as usize;
-    let k = undo::step(i, control, pair, lefts, rights, labels, marks, next);
+    let k = undo::step(i, rows, lefts, rights, labels, marks, next);
     let f = seek(
         k.stopped,
-        control,
-        pair,
+        rows,
         left - 1,
-        c == 2,
+        any,
         len,
         given,
         lefts,
@@ -226,12 +207,7 @@ fn through(
         marks,
         next,
     );
-    undo::back(k, i, control, pair, lefts, rights, labels, marks, next);
+    undo::back(k, i, rows, lefts, rights, labels, marks, next);
     note(f, given, 49 - left, t);
-    // Made anew: of f as it is the padding is copied too, by moves that overlap, which takes a tenth of the time or more.
-    Found {
-        found: f.found,
-        length: f.length,
-        ending: f.ending,
-    }
+    f
 }

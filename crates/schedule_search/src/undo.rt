@@ -9,6 +9,13 @@ use model::{Call, Control};
 use rows::moving;
 use schedule_model::Saved;
 
+/// Control and the records of both tasks, in rows of the search's own.
+#[derive(Clone, Copy)]
+pub struct Rows {
+    pub control: [u64; layout::CONTROL_WORDS],
+    pub pair: [[u64; layout::RECORD_WORDS]; 2],
+}
+
 /// What a step can write, as it was before.
 #[derive(Clone, Copy)]
 pub struct Kept {
@@ -31,14 +38,13 @@ fn keep(
     ensures { result ≡ saved (row r) (tables_of (control_of control.now)
         lefts.now rights.now labels.now marks.now next.now) }
 {
-    let words = *control;
-    let c = layout::control_of(words);
+    let c = layout::control_of(*control);
     let slot = asking::row_of(r);
-    let left = table::word_at(lefts, slot);
-    let right = table::word_at(rights, slot);
-    let label = table::label_at(labels, slot);
-    let mark = table::word_at(marks, slot / 64);
-    let next = table::word_at(next, slot);
+    let left = table::get_or(lefts, slot, 0);
+    let right = table::get_or(rights, slot, 0);
+    let label = table::get_or(labels, slot, 0);
+    let mark = table::get_or(marks, slot / 64, 0);
+    let next = table::get_or(next, slot, 0);
     Saved {
         anchor: c.anchor,
         head: c.head,
@@ -65,29 +71,24 @@ fn put_back(
         ≡ put_back s (tables_of (control_of control.old)
         lefts.old rights.old labels.old marks.old next.old) }
 {
-    let words = *control;
-    let c = layout::control_of(words);
-    let before = layout::control_row(Control {
-        tasks: c.tasks,
-        slots: c.slots,
+    let c = layout::control_of(*control);
+    *control = layout::control_row(Control {
         anchor: s.anchor,
-        pooled: c.pooled,
         head: s.head,
+        ..c
     });
-    *control = before;
     let slot = s.slot;
-    table::put_word(lefts, slot, s.left);
-    table::put_word(rights, slot, s.right);
-    table::put_label(labels, slot, s.label);
-    table::put_word(marks, slot / 64, s.mark);
-    table::put_word(next, slot, s.next);
+    table::set(lefts, slot, s.left);
+    table::set(rights, slot, s.right);
+    table::set(labels, slot, s.label);
+    table::set(marks, slot / 64, s.mark);
+    table::set(next, slot, s.next);
 }
 
 /// A step of task t, and what to put back.
 pub fn step(
     t: usize,
-    control: &mut [u64; layout::CONTROL_WORDS],
-    pair: &mut [[u64; layout::RECORD_WORDS]; 2],
+    rows: &mut Rows,
     lefts: &mut [u64],
     rights: &mut [u64],
     labels: &mut [u32],
@@ -96,21 +97,28 @@ pub fn step(
 ) -> Kept
     requires { t < 2 }
     ensures { Steps
-        (queue_in control.old pair.old
+        (queue_in rows.old.control rows.old.pair
         lefts.old rights.old labels.old marks.old next.old)
         t result
-        (queue_in control.new pair.new
+        (queue_in rows.new.control rows.new.pair
         lefts.new rights.new labels.new marks.new next.new) }
 {
-    let row = pair[t];
+    let row = rows.pair[t];
     let r = layout::call_of(row);
-    let saved = keep(control, r, lefts, rights, labels, marks, next);
-    let o = moving::move_row(control, &mut pair[t], lefts, rights, labels, marks, next);
-    let stopped = !engine::moves(o);
+    let saved = keep(&rows.control, r, lefts, rights, labels, marks, next);
+    let o = moving::move_row(
+        &mut rows.control,
+        &mut rows.pair[t],
+        lefts,
+        rights,
+        labels,
+        marks,
+        next,
+    );
     Kept {
         row,
         saved,
-        stopped,
+        stopped: !engine::moves(o),
     }
 }
 
@@ -118,8 +126,7 @@ pub fn step(
 pub fn back(
     k: Kept,
     t: usize,
-    control: &mut [u64; layout::CONTROL_WORDS],
-    pair: &mut [[u64; layout::RECORD_WORDS]; 2],
+    rows: &mut Rows,
     lefts: &mut [u64],
     rights: &mut [u64],
     labels: &mut [u32],
@@ -127,13 +134,20 @@ pub fn back(
     next: &mut [u64],
 )
     requires { t < 2 }
-    ensures { queue_in control.new pair.new
+    ensures { queue_in rows.new.control rows.new.pair
         lefts.new rights.new labels.new marks.new next.new
-        ≡ restored k t (queue_in control.old pair.old
+        ≡ restored k t (queue_in rows.old.control rows.old.pair
         lefts.old rights.old labels.old marks.old next.old) }
 {
     let row = k.row;
-    pair[t] = row;
-    let saved = k.saved;
-    put_back(saved, control, lefts, rights, labels, marks, next);
+    rows.pair[t] = row;
+    put_back(
+        k.saved,
+        &mut rows.control,
+        lefts,
+        rights,
+        labels,
+        marks,
+        next,
+    );
 }

@@ -1,11 +1,13 @@
 -- An opening, and what follows it.
+use Rattle.std.specs.Prelude.{Err, Ok}
 use Prim.Native.Nat.{ℕ, ◌*◌, ◌≤◌}
 use mathlib.Core.{Path.{◌≡◌, refl, sym, ap, ◌∙◌}, Bool.{Bool, true, false}, List.List}
 use native.Mathlib.Omega.{arith}
 use lib.{Dec.eqb, ListN.length}
-use Rattle.model.specs.{declared.Opening.{Opening, TheVariants.{Refused, Opened}}, Tables.Queue, Refusals.open_refusal}
+use Rattle.model.specs.Outcomes.{Opened, Opening, Refused}
+use Rattle.model.specs.{Tables.Queue, Refusals.open_refusal}
 use Rattle.model.specs.{Calls.{OpenDone, opened, open_as, opening_code}, History.{Request, run, final, NoFreeSlotTrue}}
-use Rattle.model.proofs.{Linearizable.linearizable, Never34.never_34, Retries.retries-sum, Tests.Truth.split}
+use Rattle.model.proofs.{Linearizable.linearizable, Never34.never_34, Retries.retries-sum, Tests.Truth.{split, same_refusal}}
 use Rattle.model.proofs.NoFreeSlot.{no_free_slot-right}
 use Rattle.stock_model.proofs.Accounts.{every-label, stock_taking}
 use Rattle.capi.specs.Replies.{uppers_at, Coded, coded}
@@ -34,7 +36,7 @@ module _ (pooled : Bool) (q : Queue) (tasks slots tag : ℕ) where
   refused_why n e =
       split (eqb why 0)
       (λ h. absurd (apart (let z : Opened ≡ Refused n = rw h at e in z)))
-      (λ h. let z : Refused why ≡ Refused n = rw h at e in let s : why ≡ n = cc in ap (λ (k : ℕ). eqb k 0) (sym s) ∙ h)
+      (λ h. let z : Refused why ≡ Refused n = rw h at e in let s : why ≡ n = same_refusal z in ap (λ (k : ℕ). eqb k 0) (sym s) ∙ h)
 
   opened-tasks : done.outcome ≡ Opened → done.queue.tables.control.tasks ≡ tasks
   unfolding open_as opened
@@ -58,10 +60,10 @@ module _ (pooled : Bool) (tasks slots tag : ℕ) (words : List ℕ) (before afte
   follows : (o : Opening) → opening.outcome ≡ o → count ≡ count_after (opening_code o) (length words) (length before.replies)
       → after ≡ served 0 (started o) (requests_of count words) → FollowsOn pooled tasks o opening.queue words before after count
   unfolding served uppers_after run final replies_of requests_from
-  follows (Refused n) e k s =
-      let z : count ≡ 0 = k ∙ rw (refused_why pooled before.queue tasks slots tag n e) in
-      (z, s ∙ rw (z, refused-keeps pooled before.queue tasks slots tag n e))
-  follows Opened e k s = (
+  follows (Err refusal) e k s =
+      let z : count ≡ 0 = k ∙ rw (refused_why pooled before.queue tasks slots tag refusal.number e) in
+      (z, s ∙ rw (z, refused-keeps pooled before.queue tasks slots tag refusal.number e))
+  follows (Ok u) e k s = (
     k,
     record {
       queue = ap (λ (x : State). x.queue) s;

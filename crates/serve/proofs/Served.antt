@@ -1,14 +1,13 @@
 -- What one operation leaves, and a list of them one by one.
-use Prim.Native.Nat.{ℕ, suc, ◌+◌, ◌*◌, ◌-◌, ◌<◌, ◌%◌, ◌^◌}
+use Prim.Native.Nat.{ℕ, suc, ◌+◌, ◌*◌, ◌-◌, ◌<◌}
 use mathlib.Core.{Path.{◌≡◌, sym, ap, ◌∙◌}, List.{List, ◌∷◌}}
 use native.Mathlib.{Numerals.add-one, Omega.arith}
-use borrow.Author.Tests.{eq-eqb, ne_eqb}
 use lib.Seq.{sets}
-use Rattle.model.specs.{declared.Op.TheVariants.{Push, Pop, PushPooled, Step}, Calls.act}
+use Rattle.model.specs.{Calls.act}
 use Rattle.model.specs.History.{Request, run, final}
 use Rattle.capi.specs.Replies.{Replied, replied}
 use Rattle.serve.specs.{declared.request.Request.Request as RequestRow, Serving.{State, uppers_after, served}}
-use Rattle.serve.specs.Requests.{op_of, request_at, requests_from, reply_words, replies_of}
+use Rattle.serve.specs.Requests.{request_at, requests_from, reply_words, replies_of}
 use Rattle.layout.specs.Rows.{writes_row}
 
 -- An operation and then the rest.
@@ -45,24 +44,6 @@ module _ (words : List ℕ) (i count : ℕ) where
       ∙ ap (λ (x : Request). served (3 * i) s (x ∷ os)) r
       ∙ ap (λ (k : ℕ). served (3 * i) s (requests_from i k words)) (sym m)
 
--- What a struct of five words asks for.
+-- What is read of five words, as a history has it.
 abbrev pub request_in : RequestRow → Request
-request_in r = record { task = r.task; op = op_of r.operation r.side r.slot r.label }
-
--- Which operation a number names.
-module _ (code side slot label : ℕ) where
-  pub a_push : code ≡ 0 → op_of code side slot label ≡ Push side slot (label % 2 ^ 32)
-  unfolding op_of
-  a_push e = rw (eq-eqb _ _ e)
-
-  pub a_pop : code ≡ 1 → op_of code side slot label ≡ Pop side
-  unfolding op_of
-  a_pop e = rw (ne_eqb code 0 (λ z. omega arith), eq-eqb code 1 e)
-
-  pub a_push_pooled : code ≡ 2 → op_of code side slot label ≡ PushPooled side (label % 2 ^ 32)
-  unfolding op_of
-  a_push_pooled e = rw (ne_eqb code 0 (λ z. omega arith), ne_eqb code 1 (λ z. omega arith), eq-eqb code 2 e)
-
-  pub a_step : 2 < code → op_of code side slot label ≡ Step
-  unfolding op_of
-  a_step h = rw (ne_eqb code 0 (λ z. omega arith), ne_eqb code 1 (λ z. omega arith), ne_eqb code 2 (λ z. omega arith))
+request_in r = record { task = r.task; op = r.op }

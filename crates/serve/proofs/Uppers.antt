@@ -1,11 +1,13 @@
 -- After an opening the upper halves of the tasks' labels are zero, and stay so.
+use Rattle.std.specs.Prelude.{Err, Ok}
 use Prim.Native.Nat.{ℕ, zero, suc, ◌<◌}
 use mathlib.Core.{Path.{◌≡◌, refl, ap, ◌∙◌}, Bool.{true, false}, List.{List, [], ◌∷◌, ◌++◌}}
 use native.Mathlib.Omega.{arith}
 use lib.{Dec.eqb, ListN.{replicate, drop, set}}
 use borrow.Author.Tests.{eqb-true}
 use Rattle.model.specs.{declared.{Op.{Op, TheVariants.{Push, Pop, PushPooled, Step}}, Record.Record}, Lists.zeroed}
-use Rattle.model.specs.{declared.Outcome.{Outcome, TheVariants.{Refused, Moved}}, Tables.{Tables, Queue, record_at}}
+use Rattle.model.specs.Outcomes.{Outcome}
+use Rattle.model.specs.Tables.{Tables, Queue, record_at}
 use Rattle.model.specs.Refusals.{among, push_refusal, push_pooled_refusal, pop_refusal, step_refusal}
 use Rattle.model.specs.Calls.{Acted, decide, push_start, push_pooled_start, pop_start, step, act_on, act}
 use Rattle.model.specs.{Ends.{is_moved, ends_call}, History.{Request, run}}
@@ -30,8 +32,8 @@ moved-known q t Step m = (step-accepted q t (unrefused (step_refusal q.tables (a
 
 -- A row that is written whole is one of an operation that was carried out.
 ends_moves : (o : Outcome) → ends_call o ≡ true → is_moved o ≡ true
-ends_moves (Refused n) e = e
-ends_moves (Moved a) e = refl
+ends_moves (Err n) e = e
+ends_moves (Ok a) e = refl
 
 writes_moves : (op : Op) (o : Outcome) → writes_row op o ≡ true → is_moved o ≡ true
 writes_moves (Push side slot label) o e = e

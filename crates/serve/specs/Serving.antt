@@ -1,8 +1,10 @@
 -- An opening and a list of operations after it: what is answered and left, and what the theorems on histories say of it.
+use Rattle.std.specs.Prelude.{Err, Ok}
 use mathlib.Core.{Bool.{Bool, true, cond}, List.{List, [], ◌∷◌, ◌++◌}, Path.◌≡◌}
 use Rattle.std.specs.Prelude.{ℕ}
 use lib.{Dec.eqb, Seq.sets, ListN.{length, set}}
-use Rattle.model.specs.{declared.Opening.{Opening, TheVariants.{Refused, Opened}}, Tables.Queue, Retries.SumIsOld}
+use Rattle.model.specs.Outcomes.{Opening}
+use Rattle.model.specs.{Tables.Queue, Retries.SumIsOld}
 use Rattle.model.specs.{Lists.zeroed, Calls.{OpenDone, open_as, opening_code}}
 use Rattle.model.specs.History.{Request, Event, run, final, Linearized, NeverUnsound, NoFreeSlotTrue}
 use Rattle.stock_model.specs.Accounts.{Accounted, StockSum}
@@ -52,8 +54,8 @@ pub record CarriedOut (pooled : Bool) (tasks : ℕ) (q : Queue) (os : List Reque
 
 -- A refused opening changes nothing. After an accepted one as many requests are carried out as there are and have room for a reply.
 abbrev pub FollowsOn : Bool → ℕ → Opening → Queue → List ℕ → State → State → ℕ → Type 0
-FollowsOn pooled tasks (Refused why) q requests before after count = (count ≡ 0) × (after ≡ before)
-FollowsOn pooled tasks Opened q requests before after count =
+FollowsOn pooled tasks (Err refusal) q requests before after count = (count ≡ 0) × (after ≡ before)
+FollowsOn pooled tasks (Ok u) q requests before after count =
     (count ≡ room (length requests) (length before.replies)) × CarriedOut pooled tasks q (requests_of count requests) before after
 
 abbrev pub Follows : Bool → ℕ → OpenDone → List ℕ → State → State → ℕ → Type 0

@@ -36,9 +36,7 @@ fn count_after(code: u32, requests: usize, replies: usize) -> usize
     if code != 0 {
         return 0;
     }
-    let given = requests / REQUEST_WORDS;
-    let fit = replies / REPLY_WORDS;
-    if given <= fit { given } else { fit }
+    (requests / REQUEST_WORDS).min(replies / REPLY_WORDS)
 }
 
 // The first `count` requests, in order.

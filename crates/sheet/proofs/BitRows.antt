@@ -1,8 +1,8 @@
 -- Rows of bits show their marks, and the words of #112 hold the chained rules.
 use mathlib.Core.{Bool.{Bool, true, false, ◌||◌}, List.{List, ◌++◌}, Path.{◌≡◌, refl, sym, ap, ◌∙◌}}
-use Prim.Native.Nat.{ℕ, zero, suc, ◌+◌, ◌*◌, ◌%◌, ◌^◌, ◌≤◌, ◌<◌, max}
+use Prim.Native.Nat.{ℕ, zero, suc, ◌+◌, ◌*◌, ◌^◌, ◌≤◌, ◌<◌, max}
 use native.Mathlib.{Nat.pow-succ', Omega.arith}
-use lib.{Bits.{bit_or, or_step}, Dec.eqb, Pow.pow-lt, ListN.{length, replicate, length-append}}
+use lib.{Bits.{bit_or, or_step}, Dec.eqb, ListN.{length, replicate, length-append}}
 use borrow.Author.Tests.{eq-eqb, ne_eqb, eqb-true, eqb-false}
 use Rattle.model.proofs.Tests.Truth.{split}
 use Rattle.sheet_model.specs.{Sheet.{any, outside}, Words.{list_of, mark, linked, bits_of, words_of}}
@@ -85,10 +85,6 @@ pub words-chained : (rules : List ℕ) (n : ℕ) (beyond : List ℕ) → n ≤ 3
 unfolding words_of
 words-chained rules n beyond k h =
     ap (λ (l : List ℕ). rounds bit_row n 0 n (rules_marked bit_row rules (l ++ beyond))) zeros ∙ marks-chained bit_row bits bits_show beyond rules n k h
-
--- A one shifted within a word.
-pub shl_one : (k : ℕ) → k < 32 → (1 * 2 ^ k) % 4294967296 ≡ 2 ^ k
-shl_one k h = let g : 2 ^ k < 4294967296 = pow-lt h in omega arith
 
 pub words_long : (f : ℕ → ℕ → Bool) (beyond : List ℕ) → 32 ≤ length (words_of f ++ beyond)
 unfolding words_of

@@ -7,12 +7,8 @@ use borrow.Author.Tests.{eqb-true, eqb-false, eq-eqb, ne_eqb}
 use Rattle.model.{specs.declared.Entry.Entry, proofs.Tests.Truth.or-false}
 use Rattle.sheet_model.specs.Sheet.{any, twice}
 use Rattle.walk.specs.Over.{each}
-use Rattle.sheet.specs.Extents.{Extents, Noting, place_of, lower, higher, noted, begun, first_at, next_at}
+use Rattle.sheet.specs.Extents.{unseen, Noting, place_of, lower, higher, noted, begun, first_at, next_at}
 use Rattle.sheet.proofs.Crossing.{lowest, highest, low-bound, lower-is, lower_min, higher_max}
-
--- No label waits.
-abbrev pub unseen : Extents
-unseen = record { low = replicate 32 1024; high = replicate 32 0 }
 
 -- Some entries noted one after the other.
 abbrev pub noted_all : Bool → List ℕ → List Entry → Noting

@@ -3,12 +3,13 @@ use mathlib.Core.{Bool.{Bool, true, false, not, ◌&&◌, ◌||◌, cond}, List.
 use Prim.Native.Nat.{ℕ, zero, suc, ◌+◌, ◌-◌, ◌≤◌, ◌<◌}
 use native.Mathlib.{Numerals.add-one, Omega.arith}
 use lib.{Dec.{eqb, leb, ltb}, ListN.{length, get_or, set, drop, drop_of_length-le, length-drop}}
-use lib.Seq.{drop-cons, set_out, set-get_or}
+use lib.Seq.{drop-cons, set-get_or}
+use Rattle.std.proofs.lemmas.List.{get_or_default}
 use borrow.Author.Tests.{eq-eqb, ne_eqb, leb-true, not-false, lt-ltb, le-ltb, ltb-true, ltb-false}
 use Rattle.model.{specs.Sound.from1, proofs.Tests.Truth.{and-true, or-false, split}}
 use Rattle.sheet_model.specs.{declared.SheetReply.SheetReply, Verdict.{broken_by, kept}}
-use Rattle.sheet_model.specs.Sheet.{Sheet, before, after, any, twice, outside, malformed}
-use Rattle.sheet.specs.{Extents.{place_of, lower, higher, first_at, next_at}, Search.{in_row, in_rows}}
+use Rattle.sheet_model.specs.Sheet.{before, after, any, twice, outside}
+use Rattle.sheet.specs.{Extents.{place_of, next_at}, Search.{in_row, in_rows}}
 use Rattle.sheet.specs.Squares.{Row, crossed, sweep, rule_marked, rules_marked, rounds, join_via}
 
 left : (n i : ℕ) → i < n → n - i ≡ suc (n - (i + 1))
@@ -49,15 +50,6 @@ module _ (l : List ℕ) (i : ℕ) where
   pub place_end : (x : ℕ) → length l ≤ i → i ≡ i + place_of x (drop i l)
   unfolding place_of
   place_end x h = rw (no-rest h) (omega arith)
-
-  pub any_here : (p : ℕ → Bool) → i < length l → any p (drop i l) ≡ any p l → p (get_or l i 0) ≡ true → true ≡ any p l
-  any_here p h g e = sym (sym g ∙ ap (any p) (rest h) ∙ ap (λ b. b || any p (drop (i + 1) l)) e)
-
-  pub any-on : (p : ℕ → Bool) → i < length l → any p (drop i l) ≡ any p l → p (get_or l i 0) ≡ false → any p (drop (i + 1) l) ≡ any p l
-  any-on p h g e = sym (sym g ∙ ap (any p) (rest h) ∙ ap (λ b. b || any p (drop (i + 1) l)) e)
-
-  pub any_end : (p : ℕ → Bool) → length l ≤ i → any p (drop i l) ≡ any p l → false ≡ any p l
-  any_end p h g = ap (any p) (sym (no-rest h)) ∙ g
 
   pub twice-here : (r : ℕ) → i < length l → twice (drop i l) ≡ twice l → r ≡ (i + 1) + place_of (get_or l i 0)
       (drop (i + 1) l) → r < length l → true ≡ twice l
@@ -150,14 +142,6 @@ module _ (n i : ℕ) where
 pub all_left : (n : ℕ) → n - 0 ≡ n
 all_left n = omega arith
 
--- A pair of places counted from 0.
-pub crossed-at : {A : Type 0} (r : Row A) (m : List A) (low high : List ℕ) (a b : ℕ)
-    → crossed r m low high (a + 1) (b + 1) ≡ r.has (get_or m a r.bare) b && leb (get_or low b 0) (get_or high a 0)
-crossed-at r m low high a b = rw (back a, back b)
-  where
-    back : (n : ℕ) → (n + 1) - 1 ≡ n
-    back n = omega arith
-
 -- Whether a row gets another's marks.
 pub join-marked : {A : Type 0} (r : Row A) (k : ℕ) (via : A) (i : ℕ) (row : A) → r.has row k ≡ true → join_via r k via i row ≡ r.join via row
 join-marked r k via i row h = ap (λ b. cond b (r.join via row) row) h
@@ -165,55 +149,37 @@ join-marked r k via i row h = ap (λ b. cond b (r.join via row) row) h
 pub join_unmarked : {A : Type 0} (r : Row A) (k : ℕ) (via : A) (i : ℕ) (row : A) → r.has row k ≡ false → join_via r k via i row ≡ row
 join_unmarked r k via i row h = ap (λ b. cond b (r.join via row) row) h
 
--- The tests of a sheet's form, one after the other.
-module _ (s : Sheet) where
-  pub many_listed : 32 < length s.listed → true ≡ malformed s
-  unfolding malformed
-  many_listed h = sym (rw (lt-ltb 32 (length s.listed) h))
+-- Rows as they are read, whatever stands for one that isn't there.
+module _ {A : Type 0} (r : Row A) (m : List A) (i : ℕ) (h : i < length m) where
+  pub rule-set : (w b a : ℕ) (x : A) → b ≡ before w → a ≡ after w → b - 1 ≡ i → set m (b - 1) (r.put (get_or m (b - 1) x) (a - 1)) ≡ rule_marked r w m
+  rule-set w b a x e f g =
+      (λ j. set m (g j) (r.put (get_or m (g j) x) (f j - 1)))
+      ∙ ap (λ (v : A). set m i (r.put v (after w - 1))) (get_or_default m i x r.bare h)
+      ∙ ap (λ (k : ℕ). set m k (r.put (get_or m k r.bare) (after w - 1))) (sym g ∙ ap (λ (k : ℕ). k - 1) e)
 
-  pub many_rules : length s.listed ≤ 32 → 128 < length s.rules → true ≡ malformed s
-  unfolding malformed
-  many_rules g h = sym (rw (le-ltb 32 (length s.listed) g, lt-ltb 128 (length s.rules) h))
+  pub row-joined : (k : ℕ) (via x y : A) → r.has (get_or m i x) k ≡ true
+      → set m i (r.join via (get_or m i y)) ≡ set m i (join_via r k via i (get_or m i r.bare))
+  row-joined k via x y e =
+      ap (λ (v : A). set m i (r.join via v)) (get_or_default m i y r.bare h)
+      ∙ ap (set m i) (sym (join-marked r k via i _ (ap (λ (v : A). r.has v k) (get_or_default m i r.bare x h) ∙ e)))
 
-  pub others : length s.listed ≤ 32 → length s.rules ≤ 128 → malformed s ≡ twice s.listed || any (outside (length s.listed)) s.rules
-  unfolding malformed
-  others g h = rw (le-ltb 32 (length s.listed) g, le-ltb 128 (length s.rules) h)
+  pub row-kept : (k : ℕ) (via x : A) → r.has (get_or m i x) k ≡ false → m ≡ set m i (join_via r k via i (get_or m i r.bare))
+  row-kept k via x e =
+      sym (ap (set m i) (join_unmarked r k via i _ (ap (λ (v : A). r.has v k) (get_or_default m i r.bare x h) ∙ e)) ∙ set-get_or m i r.bare)
 
--- Where a position is put, and where not.
-pub lower-out : (t : List ℕ) (k at : ℕ) → length t ≤ k → t ≡ set t k (lower at (get_or t k 0))
-lower-out t k at h = sym (set_out t k _ h)
-
-pub lower-put : (t : List ℕ) (k at : ℕ) → at < get_or t k 0 → set t k at ≡ set t k (lower at (get_or t k 0))
-lower-put t k at h = ap (λ b. set t k (cond b at (get_or t k 0))) (sym (lt-ltb at (get_or t k 0) h))
-
-pub lower-kept : (t : List ℕ) (k at : ℕ) → get_or t k 0 ≤ at → t ≡ set t k (lower at (get_or t k 0))
-lower-kept t k at h = sym (ap (λ b. set t k (cond b at (get_or t k 0))) (le-ltb at (get_or t k 0) h) ∙ set-get_or t k 0)
-
-pub higher-out : (t : List ℕ) (k at : ℕ) → length t ≤ k → t ≡ set t k (higher at (get_or t k 0))
-higher-out t k at h = sym (set_out t k _ h)
-
-pub higher-put : (t : List ℕ) (k at : ℕ) → get_or t k 0 < at → set t k at ≡ set t k (higher at (get_or t k 0))
-higher-put t k at h = ap (λ b. set t k (cond b at (get_or t k 0))) (sym (lt-ltb (get_or t k 0) at h))
-
-pub higher-kept : (t : List ℕ) (k at : ℕ) → at ≤ get_or t k 0 → t ≡ set t k (higher at (get_or t k 0))
-higher-kept t k at h = sym (ap (λ b. set t k (cond b at (get_or t k 0))) (le-ltb (get_or t k 0) at h) ∙ set-get_or t k 0)
+  -- A pair of places, the first of them i, counted from 0.
+  pub crossed-at : (low high : List ℕ) (b : ℕ) (x : A) → x ≡ get_or m i x
+      → crossed r m low high (i + 1) (b + 1) ≡ r.has x b && leb (get_or low b 0) (get_or high i 0)
+  crossed-at low high b x e =
+      rw (back i, back b) (ap (λ (v : A). r.has v b && leb (get_or low b 0) (get_or high i 0)) (get_or_default m i r.bare x h ∙ sym e))
+    where
+      back : (n : ℕ) → (n + 1) - 1 ≡ n
+      back n = omega arith
 
 -- The position after k steps of a walk.
 abbrev pub position : Bool → ℕ → ℕ
 position up k = cond up (1 + k) (1023 - k)
 
-pub position_first : (up : Bool) → first_at up ≡ position up 0
-position_first true = omega arith
-position_first false = omega arith
-
 pub position-on : (up : Bool) (k : ℕ) → next_at up (position up k) ≡ position up (k + 1)
 position-on true k = omega arith
 position-on false k = omega arith
-
-pub position-low : (up : Bool) (k : ℕ) → k < 1023 → 1 ≤ position up k
-position-low true k h = omega arith
-position-low false k h = omega arith
-
-pub position-high : (up : Bool) (k : ℕ) → k < 1023 → position up k ≤ 1023
-position-high true k h = omega arith
-position-high false k h = omega arith

@@ -1,16 +1,16 @@
 -- Where each listed label waits: the lowest and the highest of its positions, as one walk finds them.
-use mathlib.Core.{Bool.{Bool, true, false, cond}, List.{List, [], ◌∷◌}}
-use Rattle.std.specs.Prelude.{ℕ, suc, ◌+◌, ◌-◌}
+use mathlib.Core.{Bool.{Bool, cond}, List.{List, [], ◌∷◌}}
+use Rattle.std.specs.Prelude.{ℕ, suc, ◌+◌, ◌-◌, replicate, Option, None, Some, Result, Ok, Err}
 use lib.{Dec.{ltb, eqb}, ListN.{get_or, set}}
 use Rattle.model.specs.{declared.Entry.Entry, Walk.Walk}
-use Rattle.walk.specs.{declared.Beginning.{Beginning, TheVariants.{At, Empty, Unsound}}, Ways.ahead}
+use Rattle.walk.specs.{declared.{Unsound.Unsound, Way.Way}, Ways.ahead}
 use Rattle.walk.specs.Over.{Made, made, lost, over}
+use Rattle.sheet.specs.declared.extents.Extents.{Extents}
 
 -- Each listed label's lowest and highest position, 1 to 1,023, and 1,024 and 0 where it doesn't wait. Positions rise to the right, and only their order
--- counts: a walk from the right calls the last label 1,023, however many wait.
-pub record Extents : Type 0 where
-  pub low : List ℕ
-  pub high : List ℕ
+-- counts: a walk from the right calls the last label 1,023, however many wait. Here no label waits.
+abbrev pub unseen : Extents
+unseen = record { low = replicate 32 1024; high = replicate 32 0 }
 
 -- The same on the way, with the position of the next label met.
 pub record Noting : Type 0 where
@@ -58,12 +58,12 @@ abbrev pub gathered : Bool → List ℕ → Extents → Walk → Made Extents
 gathered up listed e v = ended (over (noted up listed) (begun up e) v)
 
 -- Of the labels waiting, by where their walk begins.
-unfoldable pub extents : Beginning → List ℕ → List ℕ → List ℕ → List ℕ → Extents → Made Extents
-extents Empty listed lefts rights labels e = made e
-extents Unsound listed lefts rights labels e = lost
-extents (At w) listed lefts rights labels e = gathered w.rightward listed e (ahead w lefts rights labels)
+unfoldable pub extents : Result (Option Way) Unsound → List ℕ → List ℕ → List ℕ → List ℕ → Extents → Made Extents
+extents (Ok None) listed lefts rights labels e = made e
+extents (Err u) listed lefts rights labels e = lost
+extents (Ok (Some w)) listed lefts rights labels e = gathered w.rightward listed e (ahead w lefts rights labels)
 
 -- As the code tells it; of a broken walk nothing counts.
-abbrev pub told : Bool → List ℕ → List ℕ → Made Extents
-told true low high = made (record { low = low; high = high })
-told false low high = lost
+abbrev pub told : Result (Unit {0}) Unsound → Extents → Made Extents
+told (Ok u) e = made e
+told (Err u) e = lost

@@ -3,43 +3,47 @@ ghost use mathlib.Core.{Path.◌≡◌, Bool.true};
 ghost use Rattle.std.specs.Prelude.{◌≤◌, get_or, set};
 ghost use Rattle.model.specs.Sound.{from1};
 ghost use Rattle.walk.specs.Ways.{beginning_of, ahead};
-ghost use Rattle.sheet.specs.Extents.{lower, higher, first_at, next_at, told, gathered, extents};
+ghost use Rattle.sheet.specs.Extents.{unseen, lower, higher, first_at, next_at, told, gathered, extents};
 
 use crate::form::place_from;
 use model::Control;
-use walk::{Beginning, Led, Way};
+use walk::{Unsound, Way};
 
-/// Puts a position at k if it is lower than the one there.
-fn lower(t: &mut [u16], k: usize, at: u16)
-    ensures { t.new ≡ set t.old k (lower at (get_or t.old k 0)) }
-{
-    if t.len() <= k {
-        return;
-    }
-    if at < t[k] {
-        t[k] = at;
-    }
+/// The lowest and the highest position of each listed label; 1,024 and 0 for one that doesn't wait.
+#[derive(Clone, Copy)]
+pub struct Extents {
+    pub low: [u16; 32],
+    pub high: [u16; 32],
 }
 
-/// Puts a position at k if it is higher than the one there.
-fn raise(t: &mut [u16], k: usize, at: u16)
-    ensures { t.new ≡ set t.old k (higher at (get_or t.old k 0)) }
-{
-    if t.len() <= k {
-        return;
+impl Extents {
+    pub fn unseen() -> Extents
+        ensures { result ≡ unseen }
+    {
+        Extents {
+            low: [1024; 32],
+            high: [0; 32],
+        }
     }
-    if t[k] < at {
-        t[k] = at;
+
+    /// Notes a position of the label at place k. One that isn't listed may have a place beyond all.
+    fn note(&mut self, k: usize, at: u16)
+        ensures { self.new ≡ record {
+          low = set self.old.low k (lower at (get_or self.old.low k 0));
+          high = set self.old.high k (higher at (get_or self.old.high k 0));
+        } }
+    {
+        if k < 32 {
+            self.low[k] = self.low[k].min(at);
+            self.high[k] = self.high[k].max(at);
+        }
     }
 }
 
 fn first_at(up: bool) -> u16
     ensures { result ≡ first_at up }
 {
-    if up {
-        return 1;
-    }
-    1023
+    if up { 1 } else { 1023 }
 }
 
 /// Positions rise along a walk from the left and fall along one from the right.
@@ -47,71 +51,48 @@ fn next_at(up: bool, at: u16) -> u16
     requires { (1 ≤ at) × (at ≤ 1023) }
     ensures { result ≡ next_at up at }
 {
-    if up {
-        return at + 1;
-    }
-    at - 1
+    if up { at + 1 } else { at - 1 }
 }
 
-/// Along the way, noting where each listed label waits; false where a link is unsound.
+/// Along the way, noting where each listed label waits.
 fn gather(
     w: Way,
     lefts: &[u64],
     rights: &[u64],
     labels: &[u32],
     listed: &[u32],
-    low: &mut [u16],
-    high: &mut [u16],
-) -> bool
+    seen: &mut Extents,
+) -> Result<(), Unsound>
     requires { (w.slots ≤ 1023) × (from1 w.slots w.first ≡ true) }
-    ensures { told result low.new high.new ≡ gathered w.rightward listed.now
-        (record { low = low.old; high = high.old })
-        (ahead w lefts.now rights.now labels.now) }
+    ensures { told result seen.new ≡ gathered w.rightward listed.now seen.old (ahead w lefts.now rights.now labels.now) }
 {
     let mut at = first_at(w.rightward);
-    let mut left = w.slots;
     let mut x = w.first;
-    while 0 < left {
-        let k = place_from(listed, 0, table::label_at(labels, x));
-        lower(low, k, at);
-        raise(high, k, at);
-        let next = walk::leads(w, lefts, rights, x);
-        match next {
-            Led::Last => {
-                return true;
-            }
-            Led::Broken => {
-                return false;
-            }
-            Led::Slot(y) => {
-                x = y;
-            }
-        }
+    for _ in 0..w.slots {
+        seen.note(place_from(listed, 0, table::get_or(labels, x, 0)), at);
+        let Some(y) = walk::leads(w, lefts, rights, x)? else {
+            return Ok(());
+        };
+        x = y;
         at = next_at(w.rightward, at);
-        left -= 1;
     }
-    false
+    Err(Unsound)
 }
 
-/// Positions go into the caller's arrays, which hold 1,024 and 0 for a label that doesn't wait.
-pub fn extents(
+/// The same of the labels waiting, by where their walk begins.
+pub fn of_waiting(
     c: Control,
     listed: &[u32],
     lefts: &[u64],
     rights: &[u64],
     labels: &[u32],
-    low: &mut [u16],
-    high: &mut [u16],
-) -> bool
+    seen: &mut Extents,
+) -> Result<(), Unsound>
     requires { c.slots ≤ 1023 }
-    ensures { told result low.new high.new ≡ extents (beginning_of c)
-        listed.now lefts.now rights.now labels.now
-        (record { low = low.old; high = high.old }) }
+    ensures { told result seen.new ≡ extents (beginning_of c) listed.now lefts.now rights.now labels.now seen.old }
 {
-    let start = walk::begin(c);
-    match start {
-        Beginning::Empty => true,
-        Beginning::Unsound => false,
-        Beginning::At(w) => gather(w, lefts, rights, labels, listed, low, high),
+    match walk::begin(c)? {
+        None => Ok(()),
+        Some(w) => gather(w, lefts, rights, labels, listed, seen),
     }
 }

@@ -1,5 +1,5 @@
 // A sheet's form: refusal 46.
-ghost use Rattle.std.specs.Prelude.{◌≡◌, ◌+◌, ◌≤◌, length, drop};
+ghost use Rattle.std.specs.{Prelude.{◌≡◌, ◌+◌, ◌≤◌, length, drop}, List.list_any};
 ghost use Rattle.sheet.specs.Extents.{place_of};
 ghost use Rattle.sheet_model.specs.Sheet.{before, after, any, twice, outside, malformed};
 
@@ -35,13 +35,10 @@ pub fn place_from(listed: &[u32], i: usize, x: u32) -> usize
 fn listed_twice(listed: &[u32]) -> bool
     ensures { result ≡ twice listed.now }
 {
-    let n = listed.len();
-    let mut i = 0;
-    while i < n {
-        if place_from(listed, i + 1, listed[i]) < n {
+    for (i, x) in listed.iter().enumerate() {
+        if place_from(listed, i + 1, *x) < listed.len() {
             return true;
         }
-        i += 1;
     }
     false
 }
@@ -61,20 +58,18 @@ pub fn after(w: u32) -> usize
 }
 
 /// Whether a rule points outside a list of n labels.
-fn points_outside(n: usize, rules: &[u32]) -> bool
-    ensures { result ≡ any (outside n) rules.now }
+fn outside(n: usize, w: u32) -> bool
+    ensures { result ≡ outside n w }
 {
     let last = n as u64;
-    let mut i = 0;
-    while i < rules.len() {
-        let first = sound::from1(last, before(rules[i]) as u64);
-        let second = sound::from1(last, after(rules[i]) as u64);
-        if !(first & second) {
-            return true;
-        }
-        i += 1;
-    }
-    false
+    !(sound::from1(last, before(w) as u64) & sound::from1(last, after(w) as u64))
+}
+
+/// Whether any of these rules points outside a list of n labels.
+fn points_outside(n: usize, rules: &[u32]) -> bool
+    ensures { result ≡ list_any (outside n) rules.now }
+{
+    rules.iter().any(|w| outside(n, *w))
 }
 
 /// Over 32 labels, over 128 rules, a label listed twice, or a rule that points outside the list.
@@ -82,14 +77,8 @@ pub fn malformed(listed: &[u32], rules: &[u32]) -> bool
     ensures { result ≡ malformed (record { listed = listed.now; rules = rules.now }) }
 {
     let n = listed.len();
-    if 32 < n {
+    if (32 < n) | (128 < rules.len()) {
         return true;
     }
-    if 128 < rules.len() {
-        return true;
-    }
-    if listed_twice(listed) {
-        return true;
-    }
-    points_outside(n, rules)
+    listed_twice(listed) || points_outside(n, rules)
 }

@@ -1,19 +1,23 @@
 //! The order sheet: whether the labels waiting keep its chained rules.
 #![tactic(auto)]
 
-ghost use mathlib.Core.{Path.◌≡◌, List.List};
+ghost use mathlib.Core.{Path.◌≡◌, Bool.{false, ◌&&◌}, List.List};
 ghost use Rattle.std.specs.Prelude.{ℕ};
-ghost use Rattle.model.specs.{Tables.tables_of, Sound.control_sound};
+ghost use Rattle.model.specs.{Tables.tables_of, Sound.{control_sound, rows_fit}};
 ghost use Rattle.sheet_model.specs.{Sheet.malformed, Verdict.{refused, sheet, Printed, sheet_words}};
-ghost use Rattle.sheet.specs.Refusals.{unfit};
+ghost use Rattle.walk.specs.Ways.{beginning_of};
+ghost use Rattle.sheet.specs.{Refusals.{unfit, answered, asked}, Extents.extents};
 
+use crate::extents::Extents;
 use model::Control;
 use sheet_model::SheetReply;
 use sound::Lengths;
+use walk::Unsound;
 
 pub mod border;
 mod extents;
 mod form;
+mod rows;
 mod search;
 mod square;
 mod words;
@@ -45,6 +49,38 @@ fn unfit(c: Control, listed: &[u32], rules: &[u32], fits: bool) -> u64
     if fits { 0 } else { 12 }
 }
 
+/// Notes where the listed labels wait, or says the number of a refusal: those before the walk, then 34 for it.
+/// `room`: there is room for the chained rules.
+fn asked(
+    c: Control,
+    listed: &[u32],
+    rules: &[u32],
+    room: bool,
+    lefts: &[u64],
+    rights: &[u64],
+    labels: &[u32],
+    marks: &[u64],
+    seen: &mut Extents,
+) -> Result<(), u64>
+    ensures { (next : List ℕ) → answered result seen.new ≡ asked
+        (unfit
+        (control_sound c)
+        (malformed (record { listed = listed.now; rules = rules.now }))
+        (rows_fit false c.slots (tables_of c lefts.now rights.now labels.now marks.now next) && room))
+        (extents (beginning_of c) listed.now lefts.now rights.now labels.now seen.old) }
+{
+    let t = Lengths::of(0, lefts, rights, labels, marks, &[]);
+    let fits = sound::rows_fit(false, c.slots, t);
+    let why = unfit(c, listed, rules, fits & room);
+    if why != 0 {
+        return Err(why);
+    }
+    match extents::of_waiting(c, listed, lefts, rights, labels, seen) {
+        Ok(()) => Ok(()),
+        Err(Unsound) => Err(34),
+    }
+}
+
 /// Kept, or the first broken pair, by first then second place in the sheet; whatever the next rows.
 pub fn sheet(
     c: Control,
@@ -59,26 +95,13 @@ pub fn sheet(
         (tables_of c lefts.now rights.now labels.now marks.now next)
         (record { listed = listed.now; rules = rules.now }) }
 {
-    let t = Lengths {
-        records: 0,
-        lefts: lefts.len(),
-        rights: rights.len(),
-        labels: labels.len(),
-        marks: marks.len(),
-        next: 0,
-    };
-    let fits = sound::rows_fit(false, c.slots, t);
-    let why = unfit(c, listed, rules, fits);
-    if why != 0 {
-        return refused(why);
+    let mut seen = Extents::unseen();
+    match asked(
+        c, listed, rules, true, lefts, rights, labels, marks, &mut seen,
+    ) {
+        Ok(()) => square::first_broken(rules, listed.len(), &seen),
+        Err(why) => refused(why),
     }
-    let mut low: [u16; 32] = [1024; 32];
-    let mut high: [u16; 32] = [0; 32];
-    if !extents::extents(c, listed, lefts, rights, labels, &mut low, &mut high) {
-        return refused(34);
-    }
-    let n = listed.len();
-    square::first_broken(rules, n, low, high)
 }
 
 /// The sheet on a smaller printer: the same answer, with 32 lent words for the chained rules in the
@@ -99,25 +122,15 @@ pub fn sheet_words(
         (record { listed = listed.now; rules = rules.now })
         lent.old) }
 {
-    let t = Lengths {
-        records: 0,
-        lefts: lefts.len(),
-        rights: rights.len(),
-        labels: labels.len(),
-        marks: marks.len(),
-        next: 0,
-    };
-    let fits = sound::rows_fit(false, c.slots, t);
-    let why = unfit(c, listed, rules, fits & (32 <= lent.len()));
-    if why != 0 {
-        return refused(why);
+    let room = 32 <= lent.len();
+    let mut seen = Extents::unseen();
+    match asked(
+        c, listed, rules, room, lefts, rights, labels, marks, &mut seen,
+    ) {
+        Ok(()) => {
+            words::closure(lent, rules, listed.len());
+            search::first_broken(lent, listed.len(), &seen)
+        }
+        Err(why) => refused(why),
     }
-    let mut low: [u16; 32] = [1024; 32];
-    let mut high: [u16; 32] = [0; 32];
-    if !extents::extents(c, listed, lefts, rights, labels, &mut low, &mut high) {
-        return refused(34);
-    }
-    let n = listed.len();
-    words::closure(lent, rules, n);
-    words::first_broken(lent, n, low, high)
 }

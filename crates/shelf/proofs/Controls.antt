@@ -13,7 +13,11 @@ unfolding controls_of
 length_controls [] = refl
 length_controls (ws ∷ rows) = ap suc (length_controls rows)
 
-pub control_read : (rows : List (List ℕ)) (i : ℕ) → control_of (get_or rows i []) ≡ get_or (controls_of rows) i unfilled
+-- What a control that is not lent reads as.
+abbrev pub zeros : List ℕ
+zeros = 0 ∷ 0 ∷ 0 ∷ 0 ∷ 0 ∷ []
+
+pub control_read : (rows : List (List ℕ)) (i : ℕ) → control_of (get_or rows i zeros) ≡ get_or (controls_of rows) i unfilled
 unfolding controls_of control_of
 control_read [] i = refl
 control_read (ws ∷ rows) zero = refl

@@ -12,18 +12,17 @@ ghost use Rattle.layout.specs.Rows.{control_of, queue_in, uppers_of};
 ghost use Rattle.shelf_model.specs.Shelves.{unfilled};
 ghost use Rattle.shelf.specs.Lent.{controls_of, shelves_in, Saved, saving, Returned, returning};
 
+use paste::MOST_TASKS;
 use sound::Lengths;
 
 /// A shelf's control; one that is not lent reads as zero.
 fn control_at(controls: &[[u64; layout::CONTROL_WORDS]], shelf: u64) -> [u64; layout::CONTROL_WORDS]
     ensures { control_of result ≡ get_or (controls_of controls.now) shelf unfilled }
 {
-    let n = shelf as usize;
-    if n < controls.len() {
-        let row = controls[n];
-        return row;
-    }
-    [0; layout::CONTROL_WORDS]
+    controls
+        .get(shelf as usize)
+        .copied()
+        .unwrap_or([0; layout::CONTROL_WORDS])
 }
 
 /// A shelf's control stored, where one is lent.
@@ -98,7 +97,13 @@ pub extern "C" fn zc_save(
         return why;
     }
     put_control(controls8, shelf, row);
-    paste::put_rows(records, records8, shelf, c.tasks);
+    paste::put(
+        records,
+        records8,
+        &mut [[0; layout::RECORD_WORDS]; MOST_TASKS],
+        shelf,
+        c.tasks,
+    );
     tables::put_tables(
         c, shelf, lefts, rights, labels, marks, next, lefts8, rights8, labels8, marks8, next8,
     );
@@ -163,7 +168,13 @@ pub extern "C" fn zc_return(
         return why;
     }
     *control = row;
-    paste::take_rows(records8, records, shelf, c.tasks);
+    paste::take(
+        records8,
+        records,
+        &mut [[0; layout::RECORD_WORDS]; MOST_TASKS],
+        shelf,
+        c.tasks,
+    );
     tables::take_tables(
         c, shelf, lefts, rights, labels, marks, next, lefts8, rights8, labels8, marks8, next8,
     );

@@ -19,6 +19,7 @@ fn eighth(t: Lengths) -> Lengths
     }
 }
 
+#[tactic(auto, unfolding(crate::specs::Lengths::both_fit))]
 fn both_hold(c: Control, queue: Lengths, shelves: Lengths, controls: usize) -> bool
     ensures { result ≡ both_fit c queue shelves controls }
 {
@@ -29,6 +30,7 @@ fn both_hold(c: Control, queue: Lengths, shelves: Lengths, controls: usize) -> b
 }
 
 /// 34, 43, 12.
+#[tactic(auto, unfolding(crate::specs::Lengths::save_number))]
 pub fn save_refusal(
     c: Control,
     shelf: u64,
@@ -53,6 +55,7 @@ pub fn save_refusal(
 }
 
 /// 43, 44, 34, 12.
+#[tactic(auto, unfolding(crate::specs::Lengths::return_number))]
 pub fn return_refusal(
     c: Control,
     shelf: u64,

@@ -4,6 +4,7 @@ ghost use Rattle.std.specs.Prelude.{◌+◌, ◌/◌, ◌≤◌};
 ghost use Rattle.model.specs.Tables.{is_pooled};
 ghost use Rattle.shelf.specs.Pasting.{put_on, put_back};
 
+use crate::paste::{MOST_ROWS, put, take};
 use model::Control;
 
 /// How many entries of the next table count: all in a pooled queue, none in a named one.
@@ -37,15 +38,15 @@ pub fn put_tables(
     ensures next8_after { next8.new ≡ put_on shelf (cond (is_pooled c) (c.slots + 1) 0) next.now next8.old }
 {
     let rows = c.slots + 1;
-    super::paste::put_words(lefts, lefts8, shelf, rows);
-    super::paste::put_words(rights, rights8, shelf, rows);
-    super::paste::put_labels(labels, labels8, shelf, rows);
-    super::paste::put_words(marks, marks8, shelf, c.slots / 64 + 1);
-    let stacked = next_rows(c);
-    super::paste::put_words(next, next8, shelf, stacked);
+    put(lefts, lefts8, &mut [0; MOST_ROWS], shelf, rows);
+    put(rights, rights8, &mut [0; MOST_ROWS], shelf, rows);
+    put(labels, labels8, &mut [0; MOST_ROWS], shelf, rows);
+    put(marks, marks8, &mut [0; MOST_ROWS], shelf, c.slots / 64 + 1);
+    put(next, next8, &mut [0; MOST_ROWS], shelf, next_rows(c));
 }
 
 /// The tables of the queue on a shelf, with this control, put back.
+// A function of its own: `zc_save` is lent the queue's tables for reading alone and `zc_return` the shelves', so no one list of parameters fits both.
 pub fn take_tables(
     c: Control,
     shelf: u64,
@@ -68,10 +69,9 @@ pub fn take_tables(
     ensures next_after { next.new ≡ put_back shelf (cond (is_pooled c) (c.slots + 1) 0) next8.now next.old }
 {
     let rows = c.slots + 1;
-    super::paste::take_words(lefts8, lefts, shelf, rows);
-    super::paste::take_words(rights8, rights, shelf, rows);
-    super::paste::take_labels(labels8, labels, shelf, rows);
-    super::paste::take_words(marks8, marks, shelf, c.slots / 64 + 1);
-    let stacked = next_rows(c);
-    super::paste::take_words(next8, next, shelf, stacked);
+    take(lefts8, lefts, &mut [0; MOST_ROWS], shelf, rows);
+    take(rights8, rights, &mut [0; MOST_ROWS], shelf, rows);
+    take(labels8, labels, &mut [0; MOST_ROWS], shelf, rows);
+    take(marks8, marks, &mut [0; MOST_ROWS], shelf, c.slots / 64 + 1);
+    take(next8, next, &mut [0; MOST_ROWS], shelf, next_rows(c));
 }

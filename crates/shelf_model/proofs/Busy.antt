@@ -1,4 +1,5 @@
 -- A call stays open until one of its steps answers: so a queue that is idle has answered the calls that it was stepped for.
+use Rattle.std.specs.Prelude.{Err, Ok}
 use mathlib.Core.{Bool.{false, not, true}, Logic.{◌≢◌, ◌⊎◌, inl, inr}, Path.{◌≡◌, ◌∙◌, ap, refl, subst, sym}}
 use Prim.Native.Nat.{ℕ, ◌<◌}
 use native.Mathlib.Omega.{arith}
@@ -6,7 +7,8 @@ use lib.{Dec.eqb, Seq.set-get_or}
 use borrow.Author.Tests.{eqb-false, eqb-true, not-false}
 use Rattle.model.specs.declared.{Answer.{Answer, TheVariants.Running}, Call.Call, Entry.Entry, Record.Record}
 use Rattle.model.specs.{declared.Op.{Op, TheVariants.{Pop, Push, PushPooled, Step}}, Ends.{answer_ends, is_running}}
-use Rattle.model.specs.{declared.Outcome.{Outcome, TheVariants.{Moved, Refused}}, History.{Event, Request, is_effect}}
+use Rattle.model.specs.Outcomes.{Moved, Outcome, Refused}
+use Rattle.model.specs.History.{Event, Request, is_effect}
 use Rattle.model.specs.Calls.{Acted, act, act_on, back, entry_of, finish, pop_start, push_start, push_pooled_start, step}
 use Rattle.model.specs.{Places.{Move, move, word_found}, Tables.{Queue, is_pooled, record_at, task_at, unused}}
 use Rattle.model.specs.Progress.{Busy, stepping, took_effect_or_answered, took_effect_or_answered_by}
@@ -87,8 +89,8 @@ module _ (q : Queue) (t : ℕ) where
         }
 
         go : (o : Outcome) → (act q t Step).outcome ≡ o → took_effect_or_answered_by e Step o ≡ false → Busy (act q t Step).queue t
-        go (Refused n) z f = subst (λ (x : Queue). Busy x t) (sym (act-refused q t Step n z)) b
-        go (Moved a) z f = left (ap is_running z ∙ ap not (or-false (is_effect e a) (answer_ends a) f).1)
+        go (Err refusal) z f = subst (λ (x : Queue). Busy x t) (sym (act-refused q t Step refusal.number z)) b
+        go (Ok a) z f = left (ap is_running z ∙ ap not (or-false (is_effect e a) (answer_ends a) f).1)
 
     own_busy : (o : Op) → took_effect_or_answered (event_of q (record { task = t; op = o })) ≡ false → Busy (act q t o).queue t
     unfolding act act_on push_start pop_start push_pooled_start

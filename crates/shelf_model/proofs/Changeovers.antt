@@ -4,7 +4,8 @@ use mathlib.Core.Path.{◌≡◌, ◌∙◌, ap, refl, subst, sym}
 use Prim.Native.Nat.{ℕ, ◌≤◌}
 use lib.Dec.{eqb}
 use borrow.Author.Tests.{eq-eqb, eqb-true, ne_eqb}
-use Rattle.model.specs.{declared.Opening.TheVariants.Opened, Tables.Queue, Sound.control_sound, Refusals.open_refusal}
+use Rattle.model.specs.Outcomes.{Opened}
+use Rattle.model.specs.{Tables.Queue, Sound.control_sound, Refusals.open_refusal}
 use Rattle.model.specs.{Calls.{Done, act, open_as}, History.{Event, Request, final, run}}
 use Rattle.model.proofs.Tests.Truth.{decide_eq, not_both, split}
 use Rattle.shelf_model.specs.{Cut.cut, Shelves.with_shelf, Changeovers.{event_of, station, turned}}

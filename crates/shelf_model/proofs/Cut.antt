@@ -4,7 +4,8 @@ use Prim.Native.Nat.{ℕ, suc, ◌≤◌, ◌/◌, ◌%◌}
 use native.Mathlib.Omega.{arith}
 use lib.{Dec.{eqb, ltb}, ListN.{get_or, length, set, take}}
 use borrow.Author.Tests.{eqb-false, eqb-true, not-false}
-use Rattle.model.specs.declared.{Call.Call, Record.Record, Outcome.TheVariants.{Moved, Refused}}
+use Rattle.model.specs.Outcomes.{Moved, Refused}
+use Rattle.model.specs.declared.{Call.Call, Record.Record}
 use Rattle.model.specs.Tables.{Tables, bit, is_pooled, marked, put_bit, with_mark, with_head, tables_of}
 use Rattle.model.specs.{Sound.{record_sound, rows_fit}, Places.{word_found, link_side, move, row}}
 use Rattle.model.specs.Places.{Touch, nothing, set_anchor, set_link, clear_mark, take_slot, set_next, set_head, Move, apply}

@@ -7,7 +7,8 @@ use borrow.Author.Tests.{ltb-true, not-false}
 use Rattle.word.specs.{Anchor.anchor_of, Link.link_of}
 use Rattle.model.specs.declared.{Answer.TheVariants.Running, Op.{Op, TheVariants.{Push, Pop, PushPooled, Step}}}
 use Rattle.model.specs.declared.{Call.Call, Record.Record, Asked.Asked, Control.Control}
-use Rattle.model.specs.{declared.Outcome.TheVariants.{Moved, Refused}, Sound.{control_sound, from1, link_sound}}
+use Rattle.model.specs.Outcomes.{Moved, Refused}
+use Rattle.model.specs.Sound.{control_sound, from1, link_sound}
 use Rattle.model.specs.Tables.{Queue, Tables, asking, is_pooled, started, task_at, unused, with_call, with_taken}
 use Rattle.model.specs.Refusals.{Lent, admission_rules, among, first, fits, named_push, nothing_asked, pooled_push, rule}
 use Rattle.model.specs.Refusals.{pop_refusal, push_refusal, push_pooled_refusal, start_rules, start_refusal, step_refusal}

@@ -3,7 +3,8 @@ use mathlib.Core.{Bool.{true, ◌&&◌, cond}, List.{List, [], ◌∷◌, ◌++�
 use Prim.Native.Nat.{ℕ, zero, suc, ◌+◌, ◌<◌, ◌≤◌}
 use native.Mathlib.Omega.{arith}
 use lib.{Dec.eqb, ListN.length}
-use Rattle.model.specs.{declared.{Control.Control, Entry.Entry, Record.Record, Outcome.TheVariants.Refused}, Calls.act}
+use Rattle.model.specs.Outcomes.{Refused}
+use Rattle.model.specs.{declared.{Control.Control, Entry.Entry, Record.Record}, Calls.act}
 use Rattle.model.specs.{Tables.{Queue, is_pooled, task_at}, Sound.control_sound, Retries.retries_below, Standing.Standing}
 use Rattle.model.specs.{Walk.{Walk, contents, entries, met}, History.{NoFreeSlotTrue, Taken}, Lists.{All, copies}}
 use Rattle.model.specs.History.{AfterOpeningAs, LedgerCall, Ending, Event, Lawful, Linearized, NeverUnsound, Request}

@@ -1,4 +1,5 @@
 -- The promises of a past hold of the queue that it leaves.
+use Rattle.std.specs.Prelude.{Ok}
 use mathlib.Core.{Bool.{Bool, true, false, not}, List.{List, [], ◌∷◌}, Logic.◌≢◌}
 use mathlib.Core.Path.{◌≡◌, ◌∙◌, ap, refl, subst, subst₂, sym}
 use Prim.Native.Nat.{ℕ, ◌<◌, ◌≤◌}
@@ -12,7 +13,6 @@ use Rattle.model.specs.{History.{Event, final, run}, Progress.took_effect_or_ans
 use Rattle.model.specs.Progress.{AnsweredWithin, Busy, SoloWithin, StretchProgresses, any, limit, steps, stretch_limit}
 use Rattle.model.proofs.{Tests.{Rules.{◌and◌, never}, Truth.not_both}, Laws.Runs.run-refused, Retries.retries-sum}
 use Rattle.model.proofs.StepBounds.{solo-bound, stretch-bound}
-use Rattle.model.specs.declared.Reported.TheVariants as reported
 use Rattle.shelf_model.specs.Shelves.{both_hold, return_refusal, save_refusal, save_rules, shelf_at}
 use Rattle.shelf_model.specs.Changeovers.{Explained, Holds, Past, World, events_of}
 use Rattle.shelf_model.specs.Promises.{Never34, Progresses, Promised, Promises}
@@ -26,7 +26,7 @@ report-none : (q : Queue) (d : List Entry) → Standing q d → report_refusal q
 unfolding report_refusal
 report-none q d s = rw (s.control, s.long, s.walk)
 
-report-told : (q : Queue) (d : List Entry) → Standing q d → report q ≡ reported.Told (told q.tables (busy q))
+report-told : (q : Queue) (d : List Entry) → Standing q d → report q ≡ Ok (told q.tables (busy q))
 unfolding report tell
 report-told q d s = rw (report-none q d s)
 

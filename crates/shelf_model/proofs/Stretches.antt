@@ -3,7 +3,8 @@ use mathlib.Core.{Bool.{Bool, true, false, cond, not}, List.{List, [], ◌∷◌
 use Prim.Native.Nat.{ℕ, zero, suc, ◌<◌}
 use lib.Dec.{eqb}
 use borrow.Author.Tests.{eq-eqb, eqb-true, not-true}
-use Rattle.model.specs.declared.{Answer.TheVariants.Running, Op.TheVariants.Step, Outcome.TheVariants.Moved}
+use Rattle.model.specs.Outcomes.{Moved}
+use Rattle.model.specs.declared.{Answer.TheVariants.Running, Op.TheVariants.Step}
 use Rattle.model.specs.{declared.Record.Record, Tables.{Queue, task_at, unused}, Refusals.open_refusal}
 use Rattle.model.specs.{Progress.AnsweredWithin, Calls.{Done, act, open_as}, Ends.{is_moved, is_running}}
 use Rattle.model.specs.{History.{Event, Request, run}, Solo.{SoloDone, last_step, one_more, resting, solo_run, solo_steps}}

@@ -2,7 +2,8 @@
 use mathlib.Core.{Path.◌≡◌, Logic.◌≢◌, Bool.{Bool, true, false, ◌&&◌, cond, not}, List.{List, [], ◌∷◌, ◌++◌}}
 use Rattle.std.specs.Prelude.{ℕ, ◌≤◌}
 use lib.{Dec.eqb, ListN.get_or}
-use Rattle.model.specs.{declared.Opening.TheVariants.Opened, Tables.Queue, Sound.control_sound, Refusals.open_refusal}
+use Rattle.model.specs.Outcomes.{Opened}
+use Rattle.model.specs.{Tables.Queue, Sound.control_sound, Refusals.open_refusal}
 use Rattle.model.specs.{Calls.{open_as, act}, History.{Request, Event, run, final}}
 use Rattle.shelf_model.specs.Cut.{cut}
 use Rattle.shelf_model.specs.Shelves.{Shelves, shelf_at, unfilled, save_refusal, saved, return_refusal, returned}

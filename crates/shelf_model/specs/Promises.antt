@@ -1,12 +1,13 @@
 -- What is promised of a queue that was saved and returned to: what is promised of its past. (Document 02, #109.)
+use Rattle.std.specs.Prelude.{Ok}
 use mathlib.Core.{Path.◌≡◌, Bool.true, List.List, Logic.◌≢◌}
 use Rattle.std.specs.Prelude.{ℕ, ◌<◌, ◌≤◌, length}
-use Rattle.model.specs.{declared.{Outcome.TheVariants.Refused, Report.Report}, Tables.{Queue, is_pooled, record_at}}
+use Rattle.model.specs.Outcomes.{Refused}
+use Rattle.model.specs.{declared.Report.Report, Tables.{Queue, is_pooled, record_at}}
 use Rattle.model.specs.{Walk.{contents, entries}, Standing.Standing, Report.report, Solo.solo_run, Lists.All}
 use Rattle.model.specs.{Neighbours.NeighboursIn, Retries.{old_count, retries_below}}
 use Rattle.model.specs.History.{LedgerCall, Event, Lawful, MarkedIn, NoFreeSlotIn, Request, Taken, ledger, run}
 use Rattle.model.specs.Progress.{AnsweredWithin, Busy, any, limit, steps, stretch_limit, took_effect_or_answered}
-use Rattle.model.specs.declared.Reported.TheVariants as reported
 use Rattle.stock_model.specs.Accounts.{AccountedIn, AddedUp}
 use Rattle.shelf_model.specs.Shelves.{return_refusal, save_refusal}
 use Rattle.shelf_model.specs.Changeovers.{AfterTurns, Explained, Turn, World, events_of, unbroken}
@@ -24,7 +25,7 @@ pub record Never34 (w : World) (i : ℕ) : Type 0 where
   pub runs : (n t : ℕ) → (solo_run n (w.queues i) t).outcome ≢ Refused 34
   pub walks : Standing (w.queues i) (ledger (w.pasts i).events).deque
   pub told : Report
-  pub is : report (w.queues i) ≡ reported.Told told
+  pub is : report (w.queues i) ≡ Ok told
   pub waiting : told.waiting ≡ length (ledger (w.pasts i).events).deque
   pub saving : (n : ℕ) → save_refusal (w.queues i) w.shelves n ≢ 34
 

@@ -1,12 +1,20 @@
 -- A link word's lower half as one number: its slot, where no spare bit is set.
 use mathlib.Core.{Path.{◌≡◌, refl, sym, subst, ◌∙◌}, Bool.{Bool, true, false, ◌&&◌, and-false}, Logic.{◌⊎◌, inl, inr}}
-use Prim.Native.Nat.{ℕ, ◌<◌, ◌≤◌, ◌%◌, ◌/◌, min}
+use Prim.Native.Nat.{ℕ, ◌<◌, ◌≤◌, ◌%◌, ◌/◌, min, max}
 use native.Mathlib.Omega.{arith}
 use lib.Dec.{leb, ltb, eqb}
 use borrow.Author.Tests.{eqb-true, eqb-false, ltb-true, ltb-false, le-leb, lt-leb}
 use Rattle.word.specs.Link.{link_of, spare_of}
 use Rattle.model.specs.Sound.{link_sound}
 use Rattle.sound.specs.Records.{read_sound}
+
+-- What a greater of two numbers is.
+pub most_of : (r a b : ℕ) → r ≡ max a b → (a ≤ r) × (b ≤ r) × ((r ≡ a) ⊎ (r ≡ b))
+most_of r a b e = (omega arith, omega arith, by_test (ltb a b) refl)
+  where
+    by_test : (t : Bool) → ltb a b ≡ t → (r ≡ a) ⊎ (r ≡ b)
+    by_test true l = let less = ltb-true a b l in inr (omega arith)
+    by_test false l = let no = ltb-false a b l in inl (omega arith)
 
 module _ (slots w : ℕ) where
   spare_set : (w / 32768 % 131072 ≡ 0 → ⊥) → 32767 < w % 4294967296

@@ -1,4 +1,5 @@
 -- What the effects in a ledger add up to, whatever its events: labels pushed are labels taken and labels in the deque.
+use Rattle.std.specs.Prelude.{Err, Ok}
 use mathlib.Core.{Bool.{Bool, ◌&&◌, cond}, List.{List, [], ◌∷◌, ◌++◌, map, reverse, reverse-cons}, Logic.◌≢◌}
 use mathlib.Core.Path.{◌≡◌, ◌∙◌, ap, refl, sym}
 use Prim.Native.Nat.{ℕ, ◌+◌}
@@ -6,7 +7,8 @@ use native.Mathlib.Omega.{arith}
 use lib.{Dec.eqb, ListN.length}
 use borrow.Author.Tests.{eqb-false, eqb-true}
 use Rattle.model.specs.declared.{Answer.Answer, Entry.Entry, Op.{Op, TheVariants.{Push, Pop, PushPooled, Step}}}
-use Rattle.model.specs.{declared.Outcome.{Outcome, TheVariants.{Refused, Moved}}, Lists.{All, copies}}
+use Rattle.model.specs.Outcomes.{Outcome}
+use Rattle.model.specs.Lists.{All, copies}
 use Rattle.model.specs.Deque.{Served, seen_from, serve, serve_for, serve_pop, serve_push, take_first}
 use Rattle.model.specs.History.{LedgerCall, Effect, Event, Ledger, accept, attend, is_effect, is_open, lacks_slot, note}
 use Rattle.model.{specs.History.{ledger_from, step_of, told_entry}, proofs.Tests.Truth.by_test}
@@ -111,8 +113,8 @@ module _ (w : ℕ → ℕ) where
 
   note_balanced : (n : ℕ) (e : Event) (o : Outcome) (l : Ledger) → Balanced l → Balanced (note n e o l)
   unfolding note
-  note_balanced n e (Refused why) l h = h
-  note_balanced n e (Moved a) l h = accept_balanced n e e.op a l h
+  note_balanced n e (Err why) l h = h
+  note_balanced n e (Ok a) l h = accept_balanced n e e.op a l h
 
   pub balanced : (n : ℕ) (l : Ledger) (es : List Event) → Balanced l → Balanced (ledger_from n l es)
   unfolding ledger_from
@@ -155,8 +157,8 @@ attend-fits n e a d (c ∷ cs) h =
 
 note-fits : (n : ℕ) (e : Event) (o : Outcome) (l : Ledger) → AllFit l.calls → AllFit (note n e o l).calls
 unfolding note accept
-note-fits n e (Refused why) l h = h
-note-fits n e (Moved a) l h = go e.op
+note-fits n e (Err why) l h = h
+note-fits n e (Ok a) l h = go e.op
   where
     go : (o : Op) → AllFit (accept n e o a l).calls
     go (Push side slot label) = (tt, h)

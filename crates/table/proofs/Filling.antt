@@ -1,16 +1,22 @@
--- A table whose first i entries are zeroed, and one entry more.
-use mathlib.Core.{Path.{◌≡◌, ap, ◌∙◌}, List.List}
-use Prim.Native.Nat.{ℕ, ◌+◌, ◌<◌, ◌≤◌}
-use native.Mathlib.Omega.{arith}
-use borrow.Author.Fill.{fill_more}
+-- A table whose first i entries are overwritten, and one entry more.
+use mathlib.Core.{Path.{◌≡◌, refl, ap, ◌∙◌}, List.{List, [], ◌∷◌}}
+use Prim.Native.Nat.{ℕ, zero, suc, ◌+◌, ◌<◌}
+use native.Mathlib.{Nat.{not-suc-le-zero, le_of_suc-le-suc}, Numerals.add-one}
 use lib.ListN.{length, set, length-set}
 use Rattle.model.specs.Lists.{zeroed}
 
--- Of table t₀ the first i of n entries are zeroed in t.
-abbrev pub Filled : List ℕ → ℕ → List ℕ → ℕ → Type 0
-Filled t₀ n t i = (i ≤ n) × ((length t ≡ length t₀) × (t ≡ zeroed i 0 t₀))
+module _ {A : Type 0} (v : A) where
+  fill_suc : (i : ℕ) (t : List A) → i < length t → set (zeroed i v t) i v ≡ zeroed (suc i) v t
+  fill_suc i [] l = absurd (not-suc-le-zero l)
+  fill_suc zero (x ∷ t) l = refl
+  fill_suc (suc i) (x ∷ t) l = ap (λ (r : List A). v ∷ r) (fill_suc i t (le_of_suc-le-suc l))
 
-pub filled_next : (t₀ : List ℕ) (n : ℕ) (t : List ℕ) (i : ℕ) → n ≤ length t₀ → i < n → Filled t₀ n t i → Filled t₀ n (set t i 0) (i + 1)
-filled_next t₀ n t i l m h =
-    let k : i < length t₀ = omega arith in
-    (omega arith, (simp length-set h.1.0, ap (λ (x : List ℕ). set x i 0) h.1.1 ∙ fill_more i 0 t₀ k))
+  fill_more : (i : ℕ) (t : List A) → i < length t → set (zeroed i v t) i v ≡ zeroed (i + 1) v t
+  fill_more i t l = rw (add-one i) (fill_suc i t l)
+
+  -- Of table t₀ the first i entries are v in t.
+  abbrev pub Filled : List A → List A → ℕ → Type 0
+  Filled t₀ t i = (length t ≡ length t₀) × (t ≡ zeroed i v t₀)
+
+  pub filled_next : (t₀ t : List A) (i : ℕ) → i < length t₀ → Filled t₀ t i → Filled t₀ (set t i v) (i + 1)
+  filled_next t₀ t i l h = (simp length-set h.0, ap (λ (x : List A). set x i v) h.1 ∙ fill_more i t₀ l)

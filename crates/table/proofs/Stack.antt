@@ -89,9 +89,3 @@ module _ (t₀ : List ℕ) (slots : ℕ) (l : slots < length t₀) where
       ap (set t slots) (z ∙ value)
       ∙ stacked-all (set t₀ 0 0) slots (set t slots (get_or (0 ∷ climb 2 slots) slots 0)) (slots + 1) refl row
       ∙ ap (λ (x : List ℕ). 0 ∷ climb 2 slots ++ x) (beyond t₀ slots)
-
-  pub within : (t : List ℕ) (i : ℕ) → Rising t i → (k : ℕ) → k ≤ slots → k < length t
-  within t i h k m = omega (arith, h.1.1.1.0, length-set t₀ 0 0)
-
-  pub same_length : (t : List ℕ) (i : ℕ) → Rising t i → (v : ℕ) → length (set t slots v) ≡ length t₀
-  same_length t i h v = length-set t slots v ∙ h.1.1.1.0 ∙ length-set t₀ 0 0

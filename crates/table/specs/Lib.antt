@@ -1,3 +1,3 @@
 pub mod Lent
-pub mod Zeroing
+pub mod Filling
 pub mod Stacking

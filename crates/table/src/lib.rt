@@ -1,10 +1,10 @@
-//! Reads and stores on lent tables, defined for every index: past the end a
-//! read gives 0 and a store does nothing.
+//! Reads and stores on lent tables, defined for every index: past the end a read gives what the caller names, and a
+//! store does nothing.
 #![tactic(auto)]
 
 ghost use Rattle.std.specs.Prelude.{◌≡◌, ◌<◌, ◌≤◌, length, get_or, set};
 ghost use Rattle.model.specs.{Tables.{marked, with_mark}, Calls.stacked, Route.counted, Lists.zeroed};
-ghost use Rattle.table.specs.{Zeroing.zeroing, Stacking.stacking};
+ghost use Rattle.table.specs.{Filling.filling, Stacking.stacking};
 
 /// A task's failed changes, with one more or not; the count stays at the ceiling.
 pub fn counted(retries: u64, failed: bool) -> u64
@@ -18,30 +18,18 @@ pub fn counted(retries: u64, failed: bool) -> u64
     retries
 }
 
-pub fn word_at(t: &[u64], i: u64) -> u64
-    ensures { result ≡ get_or t.now i 0 }
+/// Entry i, or `beyond` past the table's end.
+pub fn get_or<T: Copy>(t: &[T], i: u64, beyond: T) -> T
+    ensures { result ≡ get_or t.now i beyond }
 {
-    let k = i as usize;
-    if k < t.len() { t[k] } else { 0 }
-}
-
-pub fn label_at(t: &[u32], i: u64) -> u32
-    ensures { result ≡ get_or t.now i 0 }
-{
-    let k = i as usize;
-    if k < t.len() { t[k] } else { 0 }
-}
-
-pub fn put_word(t: &mut [u64], i: u64, w: u64)
-    ensures { t.new ≡ set t.old i w }
-{
-    let k = i as usize;
-    if k < t.len() {
-        t[k] = w;
+    match t.get(i as usize) {
+        Some(entry) => *entry,
+        None => beyond,
     }
 }
 
-pub fn put_label(t: &mut [u32], i: u64, v: u32)
+/// Stores v as entry i, where there is one.
+pub fn set<T: Copy>(t: &mut [T], i: u64, v: T)
     ensures { t.new ≡ set t.old i v }
 {
     let k = i as usize;
@@ -54,7 +42,7 @@ pub fn put_label(t: &mut [u32], i: u64, v: u32)
 pub fn marked(marks: &[u64], n: u64) -> bool
     ensures { result ≡ marked marks.now n }
 {
-    (word_at(marks, n / 64) >> (n % 64)) & 1 == 1
+    (get_or(marks, n / 64, 0) >> (n % 64)) & 1 == 1
 }
 
 pub fn set_mark(marks: &mut [u64], n: u64)
@@ -75,44 +63,15 @@ pub fn clear_mark(marks: &mut [u64], n: u64)
     }
 }
 
-fn fill_words(t: &mut [u64], n: usize)
-    requires { n ≤ length t.old }
-    ensures { t.new ≡ zeroed n 0 t.old }
-{
-    let mut i = 0;
-    while i < n {
-        t[i] = 0;
-        i += 1;
-    }
-}
-
-fn fill_labels(t: &mut [u32], n: usize)
-    requires { n ≤ length t.old }
-    ensures { t.new ≡ zeroed n 0 t.old }
-{
-    let mut i = 0;
-    while i < n {
-        t[i] = 0;
-        i += 1;
-    }
-}
-
-/// Zeroes the first n entries of a table that has as many.
-pub fn zero_words(t: &mut [u64], n: u64)
-    ensures { t.new ≡ zeroing n t.old }
+/// Overwrites the first n entries of a table that has as many.
+pub fn fill<T: Copy>(t: &mut [T], n: u64, v: T)
+    ensures { t.new ≡ filling n v t.old }
 {
     let k = n as usize;
     if k <= t.len() {
-        fill_words(t, k);
-    }
-}
-
-pub fn zero_labels(t: &mut [u32], n: u64)
-    ensures { t.new ≡ zeroing n t.old }
-{
-    let k = n as usize;
-    if k <= t.len() {
-        fill_labels(t, k);
+        for i in 0..k {
+            t[i] = v;
+        }
     }
 }
 
@@ -126,10 +85,8 @@ fn fill_stack(t: &mut [u64], slots: u64)
         return;
     }
     let last = slots as usize;
-    let mut i = 1;
-    while i < last {
+    for i in 1..last {
         t[i] = i as u64 + 1;
-        i += 1;
     }
     t[last] = 0;
 }

@@ -4,7 +4,8 @@ use Prim.Native.Nat.{ℕ, suc, ◌+◌, ◌<◌, ◌≤◌}
 use native.Mathlib.Omega.{arith}
 use lib.{Dec.eqb, ListN.get_or}
 use borrow.Author.Tests.{eqb-true, eqb-false, eq-eqb, ne_eqb}
-use Rattle.model.specs.declared.{Record.Record, Outcome.Outcome, Op.{Op, TheVariants.{Push, Pop, PushPooled, Step}}}
+use Rattle.model.specs.Outcomes.{Outcome}
+use Rattle.model.specs.declared.{Record.Record, Op.{Op, TheVariants.{Push, Pop, PushPooled, Step}}}
 use Rattle.model.specs.{Tables.{Tables, Queue, task_at, marked}, Sides.links, Refusals.late, Lists.All, History.Request}
 use Rattle.model.proofs.Tests.Truth.{either, by_test, not_both, split}
 use Rattle.threads_model.specs.{Split.plan, Starts.own_refusal, Turns.final_turns, Crew.told}

@@ -1,7 +1,8 @@
 -- A run cut in two is a list cut in two.
 use mathlib.Core.{Path.{◌≡◌, refl, ap, sym, subst, ◌∙◌}, List.{List, [], ◌∷◌, ◌++◌}}
 use Prim.Native.Nat.{ℕ}
-use Rattle.model.specs.{declared.Outcome.Outcome, Tables.Queue, Lists.All}
+use Rattle.model.specs.Outcomes.{Outcome}
+use Rattle.model.specs.{Tables.Queue, Lists.All}
 use Rattle.threads_model.specs.{Turns.{Turn, run_turns, final_turns}, Crew.owed}
 use Rattle.threads_model.specs.Crew.{Act, Crew, Known, all_free, decides, go, go_on, turns, tells_to, told, outcomes_of}
 use Rattle.threads.specs.Consequences.{InstructionsRealTime, RealTime}

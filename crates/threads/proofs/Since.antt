@@ -4,10 +4,10 @@ use Prim.Native.Nat.{ℕ}
 use native.Mathlib.Omega.{arith}
 use lib.Dec.{eqb}
 use borrow.Author.Tests.{eqb-true}
-use Rattle.model.specs.{declared.Opening.TheVariants.Opened, Tables.Queue, Refusals.open_refusal, Lists.All}
+use Rattle.model.specs.Outcomes.{Opened, Refused}
+use Rattle.model.specs.{Tables.Queue, Refusals.open_refusal, Lists.All}
 use Rattle.model.specs.{Calls.{open_as, opened}, History.{Event, ledger_from}}
 use Rattle.model.proofs.{Tests.Truth.split, Ledger.Opened.{nobody, open_good, some_slots}, Never34.open_safe}
-use Rattle.model.specs.declared.Opening.TheVariants as variants
 use Rattle.model.proofs.Laws.Sizes as sizes
 use Rattle.threads_model.specs.{Turns.{run_turns, final_turns}, Crew.{Act, Known, all_free, go_on, turns, told, owed}}
 use Rattle.threads.specs.Promises.{AfterThreads, AsList, Since, opening, plain, threads, ThreadsLinearized}
@@ -45,7 +45,7 @@ module _ (pooled : Bool) (tasks slots : ℕ) where
     unfolding open_as
     open_kept e = split (eqb (open_refusal pooled q tasks slots) 0)
         (λ z. rw z (opened-kept (eqb-true _ _ z)))
-        (λ z. absurd (let f : variants.Refused (open_refusal pooled q tasks slots) ≡ Opened = rw z at e in let w : ◌≡◌ {A = ℕ} 0 1 = cc in omega arith))
+        (λ z. absurd (let f : Refused (open_refusal pooled q tasks slots) ≡ Opened = rw z at e in let w : ◌≡◌ {A = ℕ} 0 1 = cc in omega arith))
 
   since-kept : (past : List Event) (q : Queue) → Since pooled tasks slots past q → Held past q
   since-kept _ _ (opening q tag e) = open_kept q tag e

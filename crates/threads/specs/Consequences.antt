@@ -1,7 +1,8 @@
 -- What follows for the memory that threads leave, at every moment and at rest, for real time, for the labels, and for progress.
 use mathlib.Core.{Path.◌≡◌, Bool.{cond, true}, List.{List, [], ◌∷◌, ◌++◌}, Logic.◌≢◌}
 use Rattle.std.specs.Prelude.{ℕ, ◌+◌, ◌<◌, ◌≤◌, eqb}
-use Rattle.model.specs.{declared.Outcome.TheVariants.Refused, Tables.{Queue, is_pooled, marked, with_marks}, Lists.All}
+use Rattle.model.specs.Outcomes.{Refused}
+use Rattle.model.specs.{Tables.{Queue, is_pooled, marked, with_marks}, Lists.All}
 use Rattle.model.specs.{History.{Event, Lawful, Ledger, LedgerCall, Request, final, ledger, run}, Standing.Standing}
 use Rattle.model.specs.{Walk.{contents, entries}, Progress.{any, steps, stretch_limit, took_effect_or_answered}}
 use Rattle.stock_model.specs.Accounts.{AccountedIn, AddedUp}

@@ -2,8 +2,9 @@
 use mathlib.Core.{Path.◌≡◌, Bool.{Bool, true, false, cond}, List.{List, [], ◌++◌}, Logic.◌≢◌}
 use Rattle.std.specs.Prelude.{ℕ, ◌<◌}
 use lib.{Dec.eqb, ListN.{get_or, set}}
-use Rattle.model.specs.{declared.{Call.Call, Record.Record, Outcome.{Outcome, TheVariants.Refused}}, Lists.All}
-use Rattle.model.specs.{declared.Opening.TheVariants.Opened, Tables.{Tables, Queue, task_at, marked}}
+use Rattle.model.specs.Outcomes.{Opened, Outcome, Refused}
+use Rattle.model.specs.{declared.{Call.Call, Record.Record}, Lists.All}
+use Rattle.model.specs.Tables.{Tables, Queue, task_at, marked}
 use Rattle.model.specs.{Sound.{from1, record_sound}, Refusals.{admission, alone, fits, late}, Walk.{contents, entries}}
 use Rattle.model.specs.{Calls.{act, open_as, step_lent}, History.{Event, LedgerCall, Lawful, Request, final, ledger, run}}
 use Rattle.threads_model.specs.Split.{plan, on_row, plan_unasked, settle, settle_unasked, split_step}

@@ -4,7 +4,8 @@ use mathlib.Core.{Path.{◌≡◌, refl}, Bool.{true, false}, List.{List, [], �
 use Prim.Native.Nat.{ℕ}
 use lib.ListN.{get_or, replicate}
 use Rattle.model.{specs.declared.{Call.Call, Record.Record, Answer.TheVariants.Pushed}, proofs.Bench.{fresh, at, got}}
-use Rattle.model.specs.{declared.Outcome.{Outcome, TheVariants.{Refused, Moved}}, Tables.{with_seen, with_neighbour}}
+use Rattle.model.specs.Outcomes.{Moved, Outcome, Refused}
+use Rattle.model.specs.Tables.{with_seen, with_neighbour}
 use Rattle.model.specs.declared.Op.{Op, TheVariants.{Push, Pop, PushPooled, Step}}
 use Rattle.model.specs.Tables.{Tables, Queue, queue_of, unopened, unused, counting, opened_control, with_words, new_call}
 use Rattle.model.specs.{Sound.{anchor_sound, link_sound, record_sound, rows_fit}, Calls.{opened, open_as, open_pooled}}

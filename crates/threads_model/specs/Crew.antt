@@ -2,7 +2,8 @@
 use mathlib.Core.{Bool.{Bool, cond}, List.{List, [], ◌∷◌, ◌++◌}}
 use Rattle.std.specs.Prelude.{ℕ, ◌<◌}
 use lib.{Dec.eqb, ListN.set}
-use Rattle.model.specs.{declared.{Outcome.Outcome, Op.Op}, Tables.{Queue, task_at}, History.{Event, Request}}
+use Rattle.model.specs.Outcomes.{Outcome}
+use Rattle.model.specs.{declared.Op.Op, Tables.{Queue, task_at}, History.{Event, Request}}
 use Rattle.threads_model.specs.{Turns.Turn, Instructions.{Ticked, tick, written, told_at_end, label_touched}}
 use Rattle.threads_model.specs.Instructions.{Hand, free, begun, loaded, knows, claims, looks, labels, marks, ends}
 

@@ -4,7 +4,8 @@ use Rattle.std.specs.Prelude.{Bool, ◌&&◌, ◌||◌, not, cond, ℕ, ◌%◌,
 use lib.{Dec.{eqb, leb}, ListN.{get_or, set}}
 use Rattle.word.specs.{Anchor.anchor_of, Link.{link_of, pack_link}}
 use Rattle.model.specs.{declared.{Control.Control, Call.Call, Record.Record, Entry.Entry}, Tables.with_next, Sides.links}
-use Rattle.model.specs.{declared.Outcome.{Outcome, TheVariants.{Refused, Moved}}, Calls.Acted, Kinds.{drawing, giving}}
+use Rattle.model.specs.Outcomes.{Moved, Outcome, Refused}
+use Rattle.model.specs.{Calls.Acted, Kinds.{drawing, giving}}
 use Rattle.model.specs.Tables.{with_taken, Tables, at_place, counting, with_mark, with_anchor, with_head, linked, with_marks}
 use Rattle.model.specs.{Sound.{from1, anchor_sound, link_sound}, Places.{take_slot, set_next, set_head}}
 use Rattle.model.specs.Places.{end_seen, row, link_side, Move, move, Touch, nothing, set_anchor, set_link, clear_mark}

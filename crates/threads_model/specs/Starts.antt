@@ -3,7 +3,8 @@
 use mathlib.Core.{Bool.{Bool, false, not, cond}, List.{List, [], ◌∷◌}}
 use Rattle.std.specs.Prelude.{ℕ, eqb, leb, ltb}
 use Rattle.word.specs.Anchor.{anchor_of}
-use Rattle.model.specs.declared.{Call.Call, Record.Record, Outcome.{Outcome, TheVariants.{Refused, Moved}}}
+use Rattle.model.specs.Outcomes.{Moved, Outcome, Refused}
+use Rattle.model.specs.declared.{Call.Call, Record.Record}
 use Rattle.model.specs.{declared.Answer.TheVariants.Running, Tables.{with_call, started, asking}}
 use Rattle.model.specs.{Sound.{from1, record_sound}, Refusals.{Rule, rule, first, is_busy}}
 use Rattle.threads_model.specs.declared.{PlannedTouch.PlannedTouch, Start.Start}

@@ -1,7 +1,8 @@
 -- Lists of starts and steps in which a push that names a slot may have been asked 33 before its turn.
 use mathlib.Core.{Bool.{Bool, cond}, List.{List, [], ◌∷◌}}
 use Rattle.std.specs.Prelude.{ℕ, eqb}
-use Rattle.model.specs.{declared.{Answer.TheVariants.Running, Outcome.TheVariants.Moved}, Calls.{Done, act, back}}
+use Rattle.model.specs.Outcomes.{Moved}
+use Rattle.model.specs.{declared.Answer.TheVariants.Running, Calls.{Done, act, back}}
 use Rattle.model.specs.{declared.Op.{Op, TheVariants.{Push, Pop, PushPooled, Step}}, Refusals.{among, push_refusal}}
 use Rattle.model.specs.{Tables.{Queue, task_at, record_at, with_taken, with_call, started}, History.Event}
 

@@ -3,7 +3,7 @@
 //! (`touch`); the meanings are in `specs`. What is promised of them is in `threads`.
 #![tactic(auto)]
 
-/// What the executive is asked to do with shared memory.
+/// What the executive is asked to do with shared memory. `act` is a number, since C reads this struct.
 #[repr(C)]
 #[derive(Clone, Copy)]
 pub struct PlannedTouch {
@@ -24,7 +24,7 @@ pub struct PlannedTouch {
     pub word: u64,
 }
 
-/// A call to be started.
+/// A call to be started. `operation` is a number, since C lends the start as four words with any number in them.
 #[derive(Clone, Copy)]
 pub struct Start {
     /// 0 a push that names a slot, 1 a pop, any other number a push that names none.

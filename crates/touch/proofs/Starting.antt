@@ -23,32 +23,12 @@ module _ (pooled slots : ℕ) (r : Call) (s : Start) where
   abbrev Why : ℕ → Type 0
   Why n = n ≡ start_why pooled slots r s
 
-  pub no-side : leb s.side 1 ≡ false → Why 14
-  unfolding own_refusal
-  no-side a = rw a
-
   module _ (a : leb s.side 1 ≡ true) where
-    pub wrong-kind : wrong_push pooled s ≡ true → Why 41
-    unfolding own_refusal
-    wrong-kind b = rw (a, b)
-
     module _ (b : wrong_push pooled s ≡ false) where
-      pub slot_outside : outside slots s ≡ true → Why 15
-      unfolding own_refusal
-      slot_outside d = rw (a, b, d)
-
       module _ (d : outside slots s ≡ false) where
         pub free : r.place ≡ 0 → Why 0
         unfolding own_refusal
         free e = let idle = eq-eqb r.place 0 e in rw (a, b, d, idle-sound (eqb pooled 1) slots r idle, idle)
-
-        pub busy-call : (r.place ≡ 0 → ⊥) → record_sound (eqb pooled 1) slots r ≡ true → Why 30
-        unfolding own_refusal
-        busy-call h f = rw (a, b, d, f, ne_eqb r.place 0 h)
-
-        pub damaged : record_sound (eqb pooled 1) slots r ≡ false → Why 34
-        unfolding own_refusal
-        damaged f = rw (a, b, d, f)
 
   pub loads : (n : ℕ) → Why n → n ≡ 0 → loads_anchor ≡ plan_start pooled slots r s
   unfolding plan_start
@@ -117,17 +97,6 @@ module _ (pooled slots : ℕ) (was : List ℕ) (s : Start) where
         reply = record { code = 1; label = 0; value = (is i).place };
         touch = (ep ∙ ap (plan pooled slots) is) i;
       })
-
-  -- A settlement by its touch.
-  pub by_touch : (act w why : ℕ) (late : Bool) → (eqb act 1 && eqb s.operation 0) ≡ false → late ≡ late_word w
-      → why ≡ cond (eqb act 1) (cond late 33 0) (cond (eqb w 0) (cond (eqb act 12) 0 33) 32)
-      → by (judged (record_of was) s why) ≡ by (settle_start (record_of was) s act w)
-  unfolding settle_start
-  by_touch act w why late other l e =
-      ap (λ (n : ℕ). by (judged (record_of was) s n)) (e ∙ ap (λ (b : Bool). cond (eqb act 1) (cond b 33 0) (cond (eqb w 0) (cond (eqb act 12) 0 33) 32)) l)
-      ∙ split (eqb act 1)
-      (λ a. let n : eqb s.operation 0 ≡ false = ap (λ (b : Bool). b && eqb s.operation 0) (sym a) ∙ other in rw (a, n))
-      (λ a. rw a)
 
   pub at_slot : (act w : ℕ) (late : Bool) (p : PlannedTouch) → (eqb act 1 && eqb s.operation 0) ≡ true → late ≡ late_word w
       → p ≡ cond late (loads_mark s.slot) (takes_slot s.slot s.label)

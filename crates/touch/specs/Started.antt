@@ -2,7 +2,8 @@
 use mathlib.Core.{Bool.cond, List.List}
 use Rattle.std.specs.Prelude.{ℕ, ◌%◌, ◌^◌}
 use lib.{Dec.eqb, ListN.get_or}
-use Rattle.model.specs.{declared.{Record.Record, Reply.Reply, Outcome.TheVariants.Refused}, Calls.reply_of}
+use Rattle.model.specs.Outcomes.{Refused}
+use Rattle.model.specs.{declared.{Record.Record, Reply.Reply}, Calls.reply_of}
 use Rattle.model.specs.Ends.{is_moved}
 use Rattle.threads_model.specs.{declared.{PlannedTouch.PlannedTouch, Start.Start}, Split.{refuses, plan}}
 use Rattle.threads_model.specs.Starts.{start_why, Begins, touches, answers, settle_start}

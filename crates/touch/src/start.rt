@@ -7,26 +7,27 @@ ghost use Rattle.threads_model.specs.{Split.plan, Starts.{takes_slot, loads_mark
 ghost use Rattle.threads_model.specs.Starts.{wrong_push, outside, start_why, plan_start, first_call, judged, settle_start};
 ghost use Rattle.touch.specs.Started.{start_of, Started, started_by, loaded_by};
 
-use crate::{Onward, asks};
+use crate::planned::Touch;
+use crate::{Onward, met};
 use calls::refusal;
-use model::{Call, Reply};
+use model::{Answer, Call, Refusal, Reply};
 use threads_model::{PlannedTouch, Start};
 
 /// The words of a start.
 pub const START_WORDS: usize = 4;
 
-// A label is below this.
-const LABELS: u64 = 4294967296;
-
 /// The start that its words are.
+// The operation stays a number, as C's words have it: `zc_plan_start` is proved for all numbers.
+#[tactic(auto, unfolding(crate::specs::Started::start_of))]
 pub fn start_of(words: [u64; START_WORDS]) -> Start
     ensures { result ≡ start_of words }
 {
+    let [operation, side, slot, label] = words;
     Start {
-        operation: words[0],
-        side: words[1],
-        slot: words[2],
-        label: (words[3] % LABELS) as u32,
+        operation,
+        side,
+        slot,
+        label: met::label(label),
     }
 }
 
@@ -34,26 +35,22 @@ pub fn start_of(words: [u64; START_WORDS]) -> Start
 fn wrong_push(pooled: u64, s: Start) -> bool
     ensures { result ≡ wrong_push pooled s }
 {
-    if s.operation == 0 {
-        return pooled == 1;
+    match s.operation {
+        0 => pooled == 1,
+        1 => false,
+        _ => pooled != 1,
     }
-    if s.operation == 1 {
-        return false;
-    }
-    pooled != 1
 }
 
 /// 15: a push that names no slot of the queue.
 fn outside(slots: u64, s: Start) -> bool
     ensures { result ≡ outside slots s }
 {
-    if s.operation == 0 {
-        return !sound::from1(slots, s.slot);
-    }
-    false
+    s.operation == 0 && !sound::from1(slots, s.slot)
 }
 
 /// Why a start is refused by its own numbers and record, or 0.
+#[tactic(auto, using(crate::proofs::Starting::free), unfolding(threads_model::specs::Starts::own_refusal))]
 fn own_refusal(pooled: u64, slots: u64, task: &[u64; layout::RECORD_WORDS], s: Start) -> u32
     ensures { result ≡ start_why pooled slots (call_of task.now) s }
 {
@@ -66,19 +63,19 @@ fn own_refusal(pooled: u64, slots: u64, task: &[u64; layout::RECORD_WORDS], s: S
     if outside(slots, s) {
         return 15;
     }
-    let row = *task;
-    let r = layout::call_of(row);
-    if r.place == 0 {
+    if layout::call_of(*task).place == 0 {
         return 0;
     }
     if crate::is_sound(pooled, slots, task) {
-        return 30;
+        30
+    } else {
+        34
     }
-    34
 }
 
 /// What a start does first: it is refused by its own numbers and record, or loads Anchor. (The touch is written once, by
 /// the number: of several touches the compiler keeps one in memory and copies it, with loads over stores just made.)
+#[tactic(auto, unfolding(threads_model::specs::Starts::plan_start))]
 pub fn plan_start(
     pooled: u64,
     slots: u64,
@@ -89,22 +86,21 @@ pub fn plan_start(
 {
     let why = own_refusal(pooled, slots, task, s);
     if why == 0 {
-        return asks::LOAD_ANCHOR;
+        Touch::LoadAnchor.into()
+    } else {
+        Touch::Refused(why).into()
     }
-    asks::refuses(why)
 }
 
 /// The call that a start writes.
 fn first_call(s: Start) -> Call
     ensures { result ≡ first_call s }
 {
-    if s.operation == 0 {
-        return calls::start::new_call(1, 0, s.side, s.slot, s.label);
+    match s.operation {
+        0 => calls::start::new_call(1, 0, s.side, s.slot, s.label),
+        1 => calls::start::new_call(1, 1, s.side, 0, 0),
+        _ => calls::start::new_call(12, 0, s.side, 0, s.label),
     }
-    if s.operation == 1 {
-        return calls::start::new_call(1, 1, s.side, 0, 0);
-    }
-    calls::start::new_call(12, 0, s.side, 0, s.label)
 }
 
 /// Its first step: all that can be unsound of it are the words of the start.
@@ -112,21 +108,15 @@ fn first_plan(pooled: u64, slots: u64, s: Start) -> PlannedTouch
     ensures { result ≡ plan pooled slots (first_call s) }
 {
     if 1 < s.side {
-        return asks::refuses(34);
+        return Touch::Refused(34).into();
     }
-    if s.operation == 0 {
-        if sound::from1(slots, s.slot) {
-            return asks::LOAD_ANCHOR;
-        }
-        return asks::refuses(34);
+    match s.operation {
+        0 if sound::from1(slots, s.slot) => Touch::LoadAnchor.into(),
+        0 => Touch::Refused(34).into(),
+        1 => Touch::LoadAnchor.into(),
+        _ if pooled == 1 => Touch::LoadHead.into(),
+        _ => Touch::Refused(34).into(),
     }
-    if s.operation == 1 {
-        return asks::LOAD_ANCHOR;
-    }
-    if pooled == 1 {
-        return asks::LOAD_HEAD;
-    }
-    asks::refuses(34)
 }
 
 /// The touch of a push that names a slot, once it has loaded Anchor: it takes the slot; where Anchor was
@@ -135,22 +125,13 @@ fn at_slot(late: bool, s: Start) -> PlannedTouch
     ensures { result ≡ cond late (loads_mark s.slot) (takes_slot s.slot s.label) }
 {
     if late {
-        return PlannedTouch {
-            act: 13,
-            label: 0,
-            side: 0,
+        Touch::LoadMark(s.slot).into()
+    } else {
+        Touch::TakeSlot {
             slot: s.slot,
-            expected: 0,
-            word: 0,
-        };
-    }
-    PlannedTouch {
-        act: 12,
-        label: s.label,
-        side: 0,
-        slot: s.slot,
-        expected: 0,
-        word: 0,
+            label: s.label,
+        }
+        .into()
     }
 }
 
@@ -168,6 +149,7 @@ fn why_not(act: u32, found: u64, late: bool) -> u32
 }
 
 /// A start that is decided: carried out, or refused by the number `why`.
+#[tactic(auto, using(crate::proofs::Starting::refused, crate::proofs::Starting::begun))]
 fn decides(
     slots: u64,
     pooled: u64,
@@ -179,33 +161,22 @@ fn decides(
         (record { task = record_of task.new; upper = upper_of task.new; reply = result.reply; touch = result.touch })
         (started_by pooled slots (upper_of task.old) (record_of task.old) (judged (record_of task.old) s why)) }
 {
-    let was = *task;
     if why != 0 {
-        let p = crate::plan(pooled, slots, task);
         return Onward {
-            reply: Reply {
-                code: why,
-                label: 0,
-                value: 0,
-            },
-            touch: p,
+            reply: engine::reply(Err(Refusal { number: why })),
+            touch: crate::plan(pooled, slots, task),
         };
     }
     let call = first_call(s);
-    let after = layout::record_row(call, was[9]);
-    *task = after;
-    let p = first_plan(pooled, slots, s);
+    *task = layout::record_row(call, task[9]);
     Onward {
-        reply: Reply {
-            code: 1,
-            label: 0,
-            value: call.place,
-        },
-        touch: p,
+        reply: engine::reply(Ok(Answer::Running(call.place))),
+        touch: first_plan(pooled, slots, s),
     }
 }
 
 /// What a start comes to once its touch of kind `act` has found a word.
+#[tactic(auto, unfolding(threads_model::specs::Starts::settle_start))]
 pub fn settle_start(
     slots: u64,
     pooled: u64,
@@ -234,6 +205,7 @@ pub fn settle_start(
 }
 
 /// A start whose Anchor is loaded: refused by its own numbers and record, or what it comes to.
+#[tactic(auto, using(crate::proofs::Starting::loaded_on))]
 pub fn start_loaded(
     slots: u64,
     pooled: u64,
@@ -262,8 +234,7 @@ pub extern "C" fn zc_plan_start(
 ) -> PlannedTouch
     ensures { result ≡ plan_start pooled slots (call_of task.now) (start_of words.now) }
 {
-    let asked = *words;
-    plan_start(pooled, slots, task, start_of(asked))
+    plan_start(pooled, slots, task, start_of(*words))
 }
 
 /// What a start comes to once its touch of kind `act` has found a word: one more touch (the reply's code
@@ -283,7 +254,5 @@ pub extern "C" fn zc_settle_start(
         (started_by pooled slots (upper_of task.old) (record_of task.old)
         (settle_start (record_of task.old) (start_of words.now) act found)) }
 {
-    let asked = *words;
-    let s = start_of(asked);
-    settle_start(slots, pooled, task, s, act, found)
+    settle_start(slots, pooled, task, start_of(*words), act, found)
 }

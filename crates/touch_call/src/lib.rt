@@ -23,8 +23,7 @@ pub extern "C" fn zc_start_loaded(
         (record { task = record_of task.new; upper = upper_of task.new; reply = result.reply; touch = result.touch })
         (loaded_by pooled slots (upper_of task.old) (record_of task.old) (start_of words.now) anchor) }
 {
-    let asked = *words;
-    let s = start::start_of(asked);
+    let s = start::start_of(*words);
     start::start_loaded(slots, pooled, task, s, anchor)
 }
 

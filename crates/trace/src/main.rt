@@ -3,17 +3,24 @@
 
 mod command;
 
+use command::Arguments;
+use std::io::Write;
+
+const USAGE: &[u8] =
+    b"usage: trace < RUNFILE > TRACE\nprints the trace of a run file; tools/runfile makes one\n";
+
 fn main(rt: HostRuntime) {
     let mut reader = rt.stdin();
     let mut writer = rt.stdout();
     let mut errors = rt.stderr();
-    if command::has_arguments(
-        &rt,
-        &mut writer,
-        &mut errors,
-        b"usage: trace < RUNFILE > TRACE\nprints the trace of a run file; tools/runfile makes one\n",
-    ) {
-        return;
+    match command::asked(&rt) {
+        Arguments::None => trace_stream::trace(&mut reader, &mut writer, &mut errors),
+        // Where the usage cannot be written, nothing is left to tell.
+        Arguments::Help => {
+            let _ = writer.write_all(USAGE);
+        }
+        Arguments::Unknown => {
+            let _ = errors.write_all(USAGE);
+        }
     }
-    trace_stream::trace(&mut reader, &mut writer, &mut errors);
 }

@@ -1,11 +1,12 @@
 -- The page after an operation, a malformed place and an opening: what their code leaves, as the definitions have it.
+use Rattle.std.specs.Prelude.{Ok, Err, is_ok}
 use Rattle.std.proofs.Common.{ℕ, ◌+◌, leb-true}
 use mathlib.Core.{Path.{◌≡◌, refl, sym, ap, ◌∙◌}, Bool.{Bool, true, false, not, cond}, List.{List, [], ◌∷◌, append-nil}}
 use lib.{Dec.{leb, eqb}, ListN.length}
-use Rattle.model.specs.{declared.{Control.Control, Outcome.Outcome, Record.Record, Op.Op}, Refusals.open_refusal}
+use Rattle.model.specs.Outcomes.{Opened, Opening, Outcome, Refused}
+use Rattle.model.specs.{declared.{Control.Control, Record.Record, Op.Op}, Refusals.open_refusal}
 use Rattle.model.specs.{Tables.{Tables, Queue, queue_of, unused}, Lists.zeroed, Calls.{Done, OpenDone, act, open_as}}
 use Rattle.model.specs.History.{run, final}
-use Rattle.model.specs.declared.Opening.TheVariants as opening
 use Rattle.model.specs.Calls as calls
 use Rattle.layout.specs.Rows.{control_of, records_of, queue_in}
 use Rattle.calls.{specs.Opening.{OpenedParts, many_records, open_tables}, proofs.Openings.{open_parts, whole}}
@@ -15,6 +16,11 @@ use Rattle.trace_field.specs.Run.{next, anchor_in, lines_of, number_of, operated
 use Rattle.trace_field.specs.Page.{Page, page_of, written, answered, emptied, cleared, operates, opens, breaks}
 use Rattle.trace_field.specs.declared.RunState.{RunState}
 use Rattle.trace_field.proofs.Pages.{breaks-fits}
+
+-- Whether an opening was carried out, as the library asks it.
+pub opened_is : (o : Opening) → is_ok o ≡ is_opened o
+opened_is (Err refusal) = refl
+opened_is (Ok u) = refl
 
 -- An operation answered is the list of that one operation.
 answered_one : (p : Page) (task : ℕ) (op : Op) → answered p task op (act p.run.queue task op) ≡ operates p (record { task = task; op = op } ∷ [])
@@ -63,8 +69,8 @@ clear-opened pooled q n tasks slots tag = go (eqb why 0)
 
     done : Bool → OpenDone
     done b =
-        cond b (record { queue = calls.opened pooled (many_records q n) tasks slots tag; outcome = opening.Opened })
-        (record { queue = many_records q n; outcome = opening.Refused why })
+        cond b (record { queue = calls.opened pooled (many_records q n) tasks slots tag; outcome = Opened })
+        (record { queue = many_records q n; outcome = Refused why })
 
     go : (b : Bool) → cond b tasks 0 ≡ cond (is_opened (done b).outcome) tasks 0
     go true = refl

@@ -1,14 +1,15 @@
 -- A field at a position: its bytes are there.
-use Rattle.std.proofs.Common.{ℕ, suc, ◌+◌, ◌-◌, ◌<◌, ◌≤◌, arith, length-take-le, drop-drop, take-add, drop_at, eqb-true}
+use Rattle.std.proofs.Common.{ℕ, suc, ◌+◌, ◌≤◌, [], arith, eqb-true, leb-true, add-zero}
 use mathlib.Core.{Path.{◌≡◌, refl, sym, ap, ◌∙◌, subst}, Bool.{Bool, true, false, ◌||◌}, List.List}
-use lib.{Dec.{leb, eqb}, ListN.{length, take, drop, get_or, length-drop}}
-use lib.Seq.{slice}
-use Rattle.runfile.{specs.Field.{two_at, formed, content_of, field_of}, proofs.Prefix.formed-put}
-use Rattle.runfile.specs.declared.{Field.{Field, TheVariants.Each}, Found.Found}
+use lib.{Dec.{leb, eqb}, ListN.{length, drop, get_or}}
+use Rattle.runfile.{specs.Field.{two_at, formed, content_of, field_of, taken}, proofs.Prefix.formed-put}
+use Rattle.std.specs.Prelude.{Result, Ok, Err, IfOk}
+use Rattle.runfile.specs.declared.{Found.Found, NoField.NoField}
 use Rattle.runfile.proofs.Prefix.{Seen, seen, ended, cut, wrong, whole, formed_most, formed_push, formed_pop}
-use Rattle.model.specs.declared.Op.{Op}
-use Rattle.trace_field.specs.Page.{Page, written, carries, moved, field_room, takes, BytesThere}
-use Rattle.trace_field.proofs.Pages.{cond-true, cond-false}
+use Rattle.runfile.specs.declared.NoField.TheVariants.{Malformed}
+use Rattle.trace_field.specs.Run.{Told, carried, malformed}
+use Rattle.trace_field.specs.Page.{Page, written, does, carries, uppers_after, breaks, moved, field_room, takes, BytesThere}
+use Rattle.trace_field.proofs.Pages.{cond-true, cond-false, written_none, breaks_roomy}
 
 pub content_there : (o : Bool) (tag len at n : ℕ) (d : List ℕ) → formed o tag len ≡ true → at + 3 + len ≤ n → BytesThere (content_of tag len d) at n
 unfolding content_of
@@ -28,42 +29,49 @@ content_there o tag len at n d f h = go (eqb tag 1 || eqb tag 5) refl (eqb tag 2
     go false p false q false s true t = rw (p, q, s, t) (one 5 (formed-put len o (tagged 6 t)))
     go false p false q false s false t = rw (p, q, s, t) (formed_most o tag len f, h)
 
-pub field_there : (o : Bool) (bytes : List ℕ) (at : ℕ) → BytesThere (field_of o (drop at bytes)).field at (length bytes)
-field_there o bytes at = go (field_of o (drop at bytes)) (seen o (drop at bytes))
+pub field_there : (o : Bool) (b : List ℕ) → IfOk (field_of o b) (λ found. BytesThere found.field 0 (length b))
+field_there o b = go (field_of o b) (seen o b)
   where
-    go : (f : Found) → Seen o (drop at bytes) f → BytesThere f.field at (length bytes)
+    go : (f : Result Found NoField) → Seen o b f → IfOk f (λ found. BytesThere found.field 0 (length b))
     go f (ended h) = tt
     go f (cut h) = tt
     go f (wrong h w) = tt
-    go f (whole w h) =
-        content_there o (get_or (drop at bytes) 0 0) (two_at (drop at bytes) 1) at (length bytes) (drop 3 (drop at bytes)) w
-        (omega (arith, length-drop at bytes))
+    go f (whole w h) = content_there o (get_or b 0 0) (two_at b 1) 0 (length b) (drop 3 b) w (omega arith)
 
-pub each_there : (f : Field) (op : Op) (n at len : ℕ) → f ≡ Each op n → BytesThere f at len → (n ≤ 4096) × (at + 3 + n ≤ len)
-each_there f op n at len e w = subst (λ (g : Field). BytesThere g at len) e w
-
--- The task bytes of a field.
-pub task-bytes : (at n : ℕ) (bytes : List ℕ) → at + 3 ≤ length bytes → slice (at + 3) (at + 3 + n) bytes ≡ take n (drop 3 (drop at bytes))
-task-bytes at n bytes h =
-    ap (drop (at + 3)) (take-add (at + 3) n bytes)
-    ∙ drop_at (take (at + 3) bytes) (take n (drop (at + 3) bytes)) (at + 3) (length-take-le (at + 3) bytes h)
-    ∙ ap (take n) (sym (drop-drop 3 at bytes))
-
--- The position behind a field is a machine number.
-pub next_fits : (at size len : ℕ) → at < 18446744073709551616 → len < 18446744073709551616 → size ≤ len - at → at + size < 18446744073709551616
-next_fits at size len h k s = omega arith
-
--- The field at the reading position taken: x is the page after it was carried out.
+-- What stands at the reading position taken.
 module _ (bytes : List ℕ) (p : Page) where
-  pub takes-page : (x : Page) (f : Found) (at : ℕ) → leb (p.to + field_room) (length p.out) ≡ true
-      → f ≡ field_of p.run.opened (drop p.at bytes) → x ≡ carries p f.field (drop p.at bytes) → at ≡ p.at + f.size
-      → ◌≡◌ {A = Page} (record { run = x.run; uppers = x.uppers; out = x.out; to = x.to; at = at }) (takes bytes p)
-  unfolding takes written
-  takes-page x f at h e ex ea =
-      let made : ◌≡◌ {A = Page} (record { run = x.run; uppers = x.uppers; out = x.out; to = x.to; at = at })
-      (moved (carries p f.field (drop p.at bytes)) f.size) = rw (ea, ex) in
-      made ∙ ap (λ (g : Found). moved (carries p g.field (drop p.at bytes)) g.size) e
+  pub takes_met : (f : Result Found NoField) → leb (p.to + field_room) (length p.out) ≡ true → f ≡ field_of p.run.opened (drop p.at bytes)
+      → moved (carries p f (drop p.at bytes)) (taken f) ≡ takes bytes p
+  unfolding takes
+  takes_met f h e =
+      ap (λ (g : Result Found NoField). moved (carries p g (drop p.at bytes)) (taken g)) e
       ∙ sym (cond-true (leb (p.to + field_room) (length p.out)) _ _ h)
+
+  -- A field: x is the page after it was carried out.
+  pub takes_found : (x : Page) (found : Found) → leb (p.to + field_room) (length p.out) ≡ true → Ok found ≡ field_of p.run.opened (drop p.at bytes)
+      → x ≡ does p found.field (drop p.at bytes)
+      → ◌≡◌ {A = Page} (record { run = x.run; uppers = x.uppers; out = x.out; to = x.to; at = p.at + found.size }) (takes bytes p)
+  unfolding written carried uppers_after
+  takes_found x found h e ex = rw ex (takes_met (Ok found) h e)
+
+  -- None: x is the page after a malformed place, or what was there.
+  unmoved : (x : Page) → x.at ≡ p.at → ◌≡◌ {A = Page} x (record { run = x.run; uppers = x.uppers; out = x.out; to = x.to; at = p.at + 0 })
+  unmoved x e = ap (λ (n : ℕ). record { run = x.run; uppers = x.uppers; out = x.out; to = x.to; at = n }) (e ∙ sym (add-zero p.at))
+
+  pub takes_wrong : (x : Page) → leb (p.to + field_room) (length p.out) ≡ true → Err Malformed ≡ field_of p.run.opened (drop p.at bytes)
+      → x ≡ breaks p → x ≡ takes bytes p
+  unfolding written carried uppers_after
+  takes_wrong x h e ex =
+      let room : p.to + 524288 ≤ length p.out = leb-true _ _ h in
+      ex ∙ breaks_roomy p room ∙ unmoved (written p (malformed p.run) p.uppers) refl ∙ takes_met (Err Malformed) h e
+
+  pub takes_waits : (why : NoField) → carried p.run (Err why) (drop p.at bytes) ≡ record { run = p.run; lines = [] }
+      → leb (p.to + field_room) (length p.out) ≡ true → Err why ≡ field_of p.run.opened (drop p.at bytes) → p ≡ takes bytes p
+  unfolding uppers_after
+  takes_waits why w h e =
+      unmoved p refl
+      ∙ ap (λ (x : Page). moved x 0) (sym (ap (λ (t : Told). written p t p.uppers) w ∙ written_none p))
+      ∙ takes_met (Err why) h e
 
   pub takes_none : leb (p.to + field_room) (length p.out) ≡ false → takes bytes p ≡ p
   unfolding takes

@@ -2,7 +2,8 @@
 use Rattle.std.proofs.Common.{ℕ, ◌+◌, ◌<◌, ◌≤◌, List, [], ◌∷◌, ◌++◌, append-nil, le-leb}
 use mathlib.Core.{Path.{◌≡◌, refl, sym, ap, ◌∙◌}, Bool.{Bool, true, false, cond}}
 use native.Mathlib.{Nat.add-zero, Numerals.add-one, Omega.arith}
-use lib.{Dec.leb, ListN.{length, get_or, length-append}, Seq.{slice, slice-cons, slice_empty}}
+use lib.{Dec.leb, ListN.{length, get_or, drop, length-append}, Seq.drop-cons}
+use Rattle.std.proofs.lemmas.List.{drop_all}
 use Rattle.model.specs.{declared.Op.Op, History.{Request, run, final}}
 use Rattle.lines.{specs.Line.room, proofs.Puts.sets_append}
 use Rattle.trace_field.specs.Run.{Run, Told, lines_of, number_of, operated, each_of, malformed}
@@ -51,22 +52,19 @@ operates-more p o os =
     ∙ ap (λ (t : Told). written p t (emptied (o ∷ os) p.uppers)) (operated-more p.run o os)
 
 -- An operation for each of some task bytes: the end of the list, and one more.
-module _ (op : Op) where
-  each_none : (p : Page) (end : ℕ) (bytes : List ℕ) → operates p (each_of op (slice end end bytes)) ≡ p
-  each_none p end bytes = ap (λ (l : List ℕ). operates p (each_of op l)) (slice_empty end bytes) ∙ operates-none p
+module _ (op : Op) (tasks : List ℕ) where
+  pub each_end : (p q : Page) (i : ℕ) → length tasks ≤ i → operates p (each_of op (drop i tasks)) ≡ q → p ≡ q
+  each_end p q i e h =
+      sym (operates-none p) ∙ ap (λ (l : List ℕ). operates p (each_of op l)) (sym (drop_all i tasks e)) ∙ h
 
-  pub each_end : (p q : Page) (i end : ℕ) (bytes : List ℕ) → i ≡ end → operates p (each_of op (slice i end bytes)) ≡ q → p ≡ q
-  each_end p q i end bytes e h =
-      sym (each_none p end bytes) ∙ ap (λ (k : ℕ). operates p (each_of op (slice k end bytes))) (sym e) ∙ h
-
-  pub each_more : (p p' : Page) (i end : ℕ) (bytes : List ℕ) → i < end → end ≤ length bytes
-      → p' ≡ operates p (record { task = get_or bytes i 0; op = op } ∷ [])
-      → operates p' (each_of op (slice (i + 1) end bytes)) ≡ operates p (each_of op (slice i end bytes))
-  each_more p p' i end bytes h k e =
-      ap (λ (x : Page). operates x (each_of op (slice (i + 1) end bytes))) e
-      ∙ operates-more p (record { task = get_or bytes i 0; op = op }) (each_of op (slice (i + 1) end bytes))
-      ∙ ap (λ (n : ℕ). operates p (each_of op (get_or bytes i 0 ∷ slice n end bytes))) (add-one i)
-      ∙ ap (λ (l : List ℕ). operates p (each_of op l)) (sym (slice-cons i end bytes 0 h k))
+  pub each_more : (p p' : Page) (i t : ℕ) → i < length tasks → t ≡ get_or tasks i 0 → p' ≡ operates p (record { task = t; op = op } ∷ [])
+      → operates p' (each_of op (drop (i + 1) tasks)) ≡ operates p (each_of op (drop i tasks))
+  each_more p p' i t h et e =
+      ap (λ (x : Page). operates x (each_of op (drop (i + 1) tasks))) e
+      ∙ operates-more p (record { task = t; op = op }) (each_of op (drop (i + 1) tasks))
+      ∙ ap (λ (n : ℕ). operates p (each_of op (n ∷ drop (i + 1) tasks))) et
+      ∙ ap (λ (n : ℕ). operates p (each_of op (get_or tasks i 0 ∷ drop n tasks))) (add-one i)
+      ∙ ap (λ (l : List ℕ). operates p (each_of op l)) (sym (drop-cons tasks i 0 h))
 
 -- A malformed place, with room for its line and without.
 module _ (p : Page) where

@@ -1,12 +1,12 @@
 -- A run over lent tables, and its lines in a lent buffer.
 use mathlib.Core.{Bool.{Bool, cond}, List.{List, [], ◌∷◌}}
-use Rattle.std.specs.Prelude.{ℕ, ◌+◌, ◌*◌, ◌≤◌}
+use Rattle.std.specs.Prelude.{ℕ, ◌+◌, ◌*◌, ◌≤◌, Result, Ok, Err}
 use lib.{Dec.leb, Seq.sets, ListN.{length, take, drop, set}}
 use Rattle.model.specs.{declared.Op.Op, Tables.queue_of, History.Request, Lists.zeroed, Calls.{Done, open_as}}
 use Rattle.layout.specs.Rows.{records_of, uppers_of}
-use Rattle.runfile.specs.{Field.field_of, declared.Field.{Field, TheVariants.{Open, Each, Malformed, Cut, End}}}
+use Rattle.runfile.specs.{Field.{field_of, taken}, declared.{Field.{Field, TheVariants.{Open, Each}}, Found.Found, NoField.NoField}}
 use Rattle.lines.specs.{Line.{line_of, room}, declared.Line.TheVariants.Act}
-use Rattle.trace_field.specs.Run.{Run, Told, next, is_opened, operated, opening_told, malformed, each_of, carried}
+use Rattle.trace_field.specs.Run.{Run, Told, next, is_opened, operated, opening_told, malformed, each_of, field_told, carried}
 use Rattle.trace_field.specs.declared.RunState.{RunState}
 
 -- A run; the upper halves of its rows' label words, which are in no record; a buffer, and the position behind what is written there;
@@ -52,12 +52,13 @@ emptied (o ∷ os) u = emptied os (set u o.task 0)
 unfoldable pub cleared : Run → Bool → ℕ → ℕ → ℕ → List ℕ → List ℕ
 cleared r pooled tasks slots tag u = zeroed (cond (is_opened (open_as pooled r.queue tasks slots tag).outcome) tasks 0) 0 u
 
-unfoldable pub uppers_after : Run → Field → List ℕ → List ℕ → List ℕ
-uppers_after r (Open pooled tasks slots tag) b u = cleared r pooled tasks slots tag u
-uppers_after r (Each op n) b u = emptied (each_of op (take n (drop 3 b))) u
-uppers_after r Malformed b u = u
-uppers_after r Cut b u = u
-uppers_after r End b u = u
+unfoldable pub field_uppers : Run → Field → List ℕ → List ℕ → List ℕ
+field_uppers r (Open pooled tasks slots tag) b u = cleared r pooled tasks slots tag u
+field_uppers r (Each op n) b u = emptied (each_of op (take n (drop 3 b))) u
+
+unfoldable pub uppers_after : Run → Result Found NoField → List ℕ → List ℕ → List ℕ
+uppers_after r (Ok found) b u = field_uppers r found.field b u
+uppers_after r (Err why) b u = u
 
 abbrev pub operates : Page → List Request → Page
 operates p os = written p (operated p.run os) (emptied os p.uppers)
@@ -65,7 +66,10 @@ operates p os = written p (operated p.run os) (emptied os p.uppers)
 abbrev pub opens : Page → Bool → ℕ → ℕ → ℕ → Page
 opens p pooled tasks slots tag = written p (opening_told p.run pooled tasks slots tag) (cleared p.run pooled tasks slots tag p.uppers)
 
-abbrev pub carries : Page → Field → List ℕ → Page
+abbrev pub does : Page → Field → List ℕ → Page
+does p f b = written p (field_told p.run f b) (field_uppers p.run f b p.uppers)
+
+abbrev pub carries : Page → Result Found NoField → List ℕ → Page
 carries p f b = written p (carried p.run f b) (uppers_after p.run f b p.uppers)
 
 -- A malformed place, where the buffer has room for a line.
@@ -85,12 +89,9 @@ unfoldable pub takes : List ℕ → Page → Page
 takes bytes p =
     let b = drop p.at bytes in
     let f = field_of p.run.opened b in
-    cond (leb (p.to + field_room) (length p.out)) (moved (carries p f.field b) f.size) p
+    cond (leb (p.to + field_room) (length p.out)) (moved (carries p f b) (taken f)) p
 
 -- The task bytes of a field are there.
 abbrev pub BytesThere : Field → ℕ → ℕ → Type 0
 BytesThere (Open pooled tasks slots tag) at len = Unit {0}
 BytesThere (Each op n) at len = (n ≤ 4096) × (at + 3 + n ≤ len)
-BytesThere Malformed at len = Unit {0}
-BytesThere Cut at len = Unit {0}
-BytesThere End at len = Unit {0}

@@ -1,11 +1,12 @@
 -- A run of the queue, and the lines that it prints. (Document 01: The run file and its trace.)
 use mathlib.Core.{Bool.{Bool, true, false, not}, List.{List, [], ◌∷◌, ◌++◌, map}}
-use Rattle.std.specs.Prelude.{ℕ, ◌+◌, ◌%◌, ◌^◌, take, drop}
-use Rattle.model.specs.{declared.{Opening.{Opening, TheVariants.{Refused, Opened}}, Op.Op}, Tables.Queue, Calls.open_as}
+use Rattle.std.specs.Prelude.{ℕ, ◌+◌, ◌%◌, ◌^◌, take, drop, Result, Ok, Err}
+use Rattle.model.specs.Outcomes.{Opening}
+use Rattle.model.specs.{declared.Op.Op, Tables.Queue, Calls.open_as}
 use Rattle.model.specs.History.{Request, Event, run, final}
 use Rattle.lines.specs.Line.{line_of}
 use Rattle.lines.specs.declared.Line.TheVariants as line
-use Rattle.runfile.specs.declared.Field.{Field, TheVariants.{Open, Each, Malformed, Cut, End}}
+use Rattle.runfile.specs.declared.{Field.{Field, TheVariants.{Open, Each}}, Found.Found, NoField.{NoField, TheVariants.{Malformed, Cut, End}}}
 
 -- Between two fields: the queue, whether it was opened, whether the run has ended, and the number of the last event.
 pub record Run : Type 0 where
@@ -44,8 +45,8 @@ operated r os = record {
 
 -- An opening. A refused one ends the run.
 abbrev pub is_opened : Opening → Bool
-is_opened (Refused n) = false
-is_opened Opened = true
+is_opened (Err refusal) = false
+is_opened (Ok u) = true
 
 unfoldable pub opening_told : Run → Bool → ℕ → ℕ → ℕ → Told
 opening_told r pooled tasks slots tag =
@@ -67,10 +68,14 @@ malformed r = record {
 abbrev pub each_of : Op → List ℕ → List Request
 each_of op tasks = map (λ t. record { task = t; op = op }) tasks
 
--- A field carried out; b are the bytes from it on. Where no whole field is, nothing is done.
-unfoldable pub carried : Run → Field → List ℕ → Told
-carried r (Open pooled tasks slots tag) b = opening_told r pooled tasks slots tag
-carried r (Each op n) b = operated r (each_of op (take n (drop 3 b)))
-carried r Malformed b = malformed r
-carried r Cut b = record { run = r; lines = [] }
-carried r End b = record { run = r; lines = [] }
+-- A field carried out; b are the bytes from it on.
+unfoldable pub field_told : Run → Field → List ℕ → Told
+field_told r (Open pooled tasks slots tag) b = opening_told r pooled tasks slots tag
+field_told r (Each op n) b = operated r (each_of op (take n (drop 3 b)))
+
+-- What was found at the head of b. Where no whole field is, nothing is done, unless the place is malformed.
+unfoldable pub carried : Run → Result Found NoField → List ℕ → Told
+carried r (Ok found) b = field_told r found.field b
+carried r (Err Malformed) b = malformed r
+carried r (Err Cut) b = record { run = r; lines = [] }
+carried r (Err End) b = record { run = r; lines = [] }

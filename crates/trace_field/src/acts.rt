@@ -1,15 +1,15 @@
 //! What each field does, with its lines.
 ghost use mathlib.Core.{Path.◌≡◌, List.{List, [], ◌∷◌}};
-ghost use Rattle.std.specs.Prelude.{ℕ, ◌+◌, ◌-◌, ◌*◌, ◌≤◌};
-ghost use lib.{ListN.{length, set}, Seq.slice};
+ghost use Rattle.std.specs.Prelude.{ℕ, ◌+◌, ◌*◌, ◌≤◌};
+ghost use lib.ListN.{length, set};
 ghost use Rattle.model.specs.Tables.{queue_of};
 ghost use Rattle.layout.specs.Rows.{records_of, uppers_of};
-ghost use Rattle.trace_field.specs.{Run.{is_opened, each_of}, Page.{page_of, answered, operates, opens}};
+ghost use Rattle.trace_field.specs.{Run.each_of, Page.{page_of, answered, operates, opens}};
 
 use crate::RunState;
 use calls::opening;
 use lines::Line;
-use model::{Control, Op, Opening, Outcome};
+use model::{Control, Op, Outcome};
 
 // An operation that was done: its line written.
 fn answer(
@@ -27,21 +27,14 @@ fn answer(
         (record { queue = queue_of control (records_of rows') ls' rs' bs' ms' ns'; outcome = outcome }) }
     ensures to_bound { result.to ≤ s.to + 128 }
 {
-    let event = std::num::wrapping_add_u64(s.event, 1);
-    let to = lines::write_line(
-        out,
-        s.to,
-        event,
-        Line::Act { task, op, outcome },
-        control.anchor,
-    );
+    let event = s.event.wrapping_add(1);
+    let line = Line::Act { task, op, outcome };
+    let to = lines::write_line(out, s.to, event, line, control.anchor);
     RunState {
         control,
-        opened: s.opened,
-        over: s.over,
         event,
-        at: s.at,
         to,
+        ..s
     }
 }
 
@@ -67,23 +60,19 @@ fn operate(
         (record { task = task; op = op } ∷ []) }
     ensures to_bound { result.to ≤ s.to + 128 }
 {
-    let c = s.control;
-    let mut words = layout::control_row(c);
+    let mut words = layout::control_row(s.control);
     let outcome = rows::op::operate(
         &mut words, rows, task, op, lefts, rights, labels, marks, next,
     );
     layout::trim(rows, task);
-    let control = layout::control_of(words);
-    answer(s, control, outcome, task, op, out)
+    answer(s, layout::control_of(words), outcome, task, op, out)
 }
 
-/// The operation for each of the task bytes from `from` to `end`.
+/// The operation for each of the task bytes.
 pub fn each(
     s: RunState,
     op: Op,
-    bytes: &[u8],
-    from: usize,
-    end: usize,
+    tasks: &[u8],
     out: &mut [u8],
     rows: &mut [[u64; layout::RECORD_WORDS]],
     lefts: &mut [u64],
@@ -92,29 +81,30 @@ pub fn each(
     marks: &mut [u64],
     next: &mut [u64],
 ) -> RunState
-    requires { (from ≤ end) × (end ≤ length bytes.now) × (s.to + 128 * (end - from) ≤ length out.old) }
+    requires { s.to + 128 * length tasks.now ≤ length out.old }
     ensures { page_of result out.new rows.new
         lefts.new rights.new labels.new marks.new next.new
         ≡ operates
         (page_of s out.old rows.old
         lefts.old rights.old labels.old marks.old next.old)
-        (each_of op (slice from end bytes.now)) }
+        (each_of op tasks.now) }
 {
     let mut q = s;
-    for i in from..end {
-        let task = bytes[i] as usize;
-        q = operate(q, task, op, out, rows, lefts, rights, labels, marks, next);
+    for &task in tasks {
+        q = operate(
+            q,
+            usize::from(task),
+            op,
+            out,
+            rows,
+            lefts,
+            rights,
+            labels,
+            marks,
+            next,
+        );
     }
     q
-}
-
-fn is_opened(o: Opening) -> bool
-    ensures { result ≡ is_opened o }
-{
-    match o {
-        Opening::Refused(_) => false,
-        Opening::Opened => true,
-    }
 }
 
 /// The opening. A refused one ends the run.
@@ -140,9 +130,8 @@ pub fn open_queue(
         lefts.old rights.old labels.old marks.old next.old)
         pooled tasks slots tag }
 {
-    let c = s.control;
-    let o = opening::open_tables(
-        c,
+    let parts = opening::open_tables(
+        s.control,
         pooled,
         rows.len(),
         tasks,
@@ -154,18 +143,22 @@ pub fn open_queue(
         marks,
         next,
     );
-    let control = o.control;
-    let outcome = o.outcome;
-    layout::clear(rows, o.clear);
-    let good = is_opened(outcome);
-    let event = std::num::wrapping_add_u64(s.event, 1);
-    let to = lines::write_line(out, s.to, event, Line::Open(outcome), control.anchor);
-    RunState {
-        control,
-        opened: good,
-        over: !good,
+    layout::clear(rows, parts.clear);
+    let opened = parts.outcome.is_ok();
+    let event = s.event.wrapping_add(1);
+    let to = lines::write_line(
+        out,
+        s.to,
         event,
-        at: s.at,
+        Line::Open(parts.outcome),
+        parts.control.anchor,
+    );
+    RunState {
+        control: parts.control,
+        opened,
+        over: !opened,
+        event,
         to,
+        ..s
     }
 }

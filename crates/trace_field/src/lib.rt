@@ -8,16 +8,16 @@ mod acts;
 ghost use mathlib.Core.{Path.◌≡◌, List.List};
 ghost use Rattle.std.specs.Prelude.{ℕ, ◌+◌, ◌≤◌};
 ghost use lib.{Dec.leb, ListN.{length, drop}};
-ghost use Rattle.trace_field.specs.Page.{page_of, field_room, breaks, carries, takes, BytesThere};
+ghost use Rattle.trace_field.specs.Page.{page_of, field_room, breaks, does, takes, BytesThere};
 
 use lines::Line;
 use model::Control;
-use runfile::Field;
+use runfile::{Field, Found, NoField};
 
 // Room in the buffer for the lines of any one field.
 const FIELD_ROOM: usize = 524288;
 
-/// A run between two fields.
+/// A run between two fields. `opened` and `over` stay flags, because `Run` of `specs/Run.antt` has both, and the file's trace is defined on it.
 #[derive(Clone, Copy)]
 pub struct RunState {
     pub control: Control,
@@ -37,28 +37,24 @@ pub fn malformed(s: RunState, out: &mut [u8]) -> RunState
     ensures { (ws : List (List ℕ)) (ls rs bs ms ns : List ℕ)
         → page_of result out.new ws ls rs bs ms ns ≡ breaks (page_of s out.old ws ls rs bs ms ns) }
 {
-    if lines::fits(out.len(), s.to) {
-        let c = s.control;
-        let event = std::num::wrapping_add_u64(s.event, 1);
-        let to = lines::write_line(out, s.to, event, Line::File, c.anchor);
-        return RunState {
-            control: c,
-            opened: s.opened,
-            over: true,
-            event,
-            at: s.at,
-            to,
-        };
+    if !lines::fits(out.len(), s.to) {
+        return s;
     }
-    s
+    let event = s.event.wrapping_add(1);
+    let to = lines::write_line(out, s.to, event, Line::File, s.control.anchor);
+    RunState {
+        over: true,
+        event,
+        to,
+        ..s
+    }
 }
 
-// A field at a position of the bytes. One that waits does nothing.
+// A field that stands at the head of the bytes.
 fn carry_out(
     s: RunState,
     field: Field,
     bytes: &[u8],
-    at: usize,
     out: &mut [u8],
     rows: &mut [[u64; layout::RECORD_WORDS]],
     lefts: &mut [u64],
@@ -68,13 +64,13 @@ fn carry_out(
     next: &mut [u64],
 ) -> RunState
     requires to_in_bounds { s.to + 524288 ≤ length out.old }
-    requires bytes_there { BytesThere field at (length bytes.now) }
+    requires bytes_there { BytesThere field 0 (length bytes.now) }
     ensures { page_of result out.new rows.new
         lefts.new rights.new labels.new marks.new next.new
-        ≡ carries
+        ≡ does
         (page_of s out.old rows.old
         lefts.old rights.old labels.old marks.old next.old)
-        field (drop at bytes.now) }
+        field bytes.now }
 {
     match field {
         Field::Open {
@@ -85,23 +81,10 @@ fn carry_out(
         } => acts::open_queue(
             s, pooled, tasks, slots, tag, out, rows, lefts, rights, labels, marks, next,
         ),
-        Field::Each { op, count } => acts::each(
-            s,
-            op,
-            bytes,
-            at + runfile::HEAD,
-            at + runfile::HEAD + count,
-            out,
-            rows,
-            lefts,
-            rights,
-            labels,
-            marks,
-            next,
-        ),
-        Field::Malformed => malformed(s, out),
-        Field::Cut => s,
-        Field::End => s,
+        Field::Each { op, count } => {
+            let tasks = &bytes[runfile::HEAD..runfile::HEAD + count];
+            acts::each(s, op, tasks, out, rows, lefts, rights, labels, marks, next)
+        }
     }
 }
 
@@ -109,10 +92,14 @@ fn carry_out(
 fn has_room(len: usize, to: usize) -> bool
     ensures { result ≡ leb (to + field_room) len }
 {
-    if len < FIELD_ROOM {
-        return false;
-    }
-    to <= len - FIELD_ROOM
+    len.checked_sub(FIELD_ROOM).is_some_and(|last| to <= last)
+}
+
+// The bytes from a position on: none past the end.
+fn from_position(bytes: &[u8], at: usize) -> &[u8]
+    ensures { result.now ≡ drop at bytes.now }
+{
+    bytes.get(at..).unwrap_or_default()
 }
 
 /// The field at the reading position. Nothing is done where the buffer has no room for its lines.
@@ -133,15 +120,22 @@ pub fn take(
         (page_of s out.old rows.old
         lefts.old rights.old labels.old marks.old next.old) }
 {
-    if has_room(out.len(), s.to) {
-        let at = s.at;
-        let found = runfile::field_at(bytes, at, s.opened);
-        let field = found.field;
-        let mut q = carry_out(
-            s, field, bytes, at, out, rows, lefts, rights, labels, marks, next,
-        );
-        q.at = at + found.size;
-        return q;
+    if !has_room(out.len(), s.to) {
+        return s;
     }
-    s
+    let rest = from_position(bytes, s.at);
+    match runfile::first_field(rest, s.opened) {
+        Ok(Found { field, size }) => {
+            let done = carry_out(
+                s, field, rest, out, rows, lefts, rights, labels, marks, next,
+            );
+            RunState {
+                at: s.at + size,
+                ..done
+            }
+        }
+        Err(NoField::Malformed) => malformed(s, out),
+        Err(NoField::Cut) => s,
+        Err(NoField::End) => s,
+    }
 }

@@ -4,51 +4,49 @@ use mathlib.Core.{Path.{◌≡◌, refl, sym, ap, ◌∙◌}, Bool.{Bool, true, 
 use native.Mathlib.Omega.{arith}
 use lib.{ListN.{length, get_or, drop, length-drop}, Dec.leb, Seq.{take-append-le, drop-append-le}}
 use borrow.Author.Tests.{leb-true, leb-false}
-use Rattle.runfile.specs.Field.{two_at, longest_field, content_of, missing, field_of}
-use Rattle.runfile.specs.declared.{Field.{Field, TheVariants.{Open, Each, Malformed, Cut, End}}, Found.Found}
+use Rattle.std.specs.Prelude.{Result, Err}
+use Rattle.runfile.specs.Field.{two_at, longest_field, content_of, taken, field_of}
+use Rattle.runfile.specs.declared.{Field.{Field, TheVariants.{Open, Each}}, Found.Found, NoField.{NoField, TheVariants.{Malformed}}}
 use Rattle.runfile.proofs.Prefix.{Seen, seen, ended, cut, wrong, whole, same-wrong, same_whole}
-use Rattle.trace_field.specs.{Run.{Run, Told, malformed, carried}, Page.BytesThere}
+use Rattle.trace_field.specs.{Run.{Run, Told, malformed, field_told, carried}, Page.BytesThere}
 use Rattle.trace_field.proofs.{Pages.{cond-true, cond-false}, Fields.content_there}
 use Rattle.trace_replay.specs.Trace.{Fed, unmoved, after, feed_in, feed}
 
 -- What a run makes of the field at the head of b.
 unfoldable pub told : Run → List ℕ → Told
-told r b = carried r (field_of r.opened b).field b
+told r b = carried r (field_of r.opened b) b
 
 unfoldable pub size_at : Run → List ℕ → ℕ
-size_at r b = (field_of r.opened b).size
+size_at r b = taken (field_of r.opened b)
 
-module _ (r : Run) (b : List ℕ) {f : Found} (e : field_of r.opened b ≡ f) where
-  size_of : size_at r b ≡ f.size
+module _ (r : Run) (b : List ℕ) {f : Result Found NoField} (e : field_of r.opened b ≡ f) where
+  size_of : size_at r b ≡ taken f
   unfolding size_at
-  size_of = ap (λ (x : Found). x.size) e
+  size_of = ap taken e
 
-  told_of : told r b ≡ carried r f.field b
+  told_of : told r b ≡ carried r f b
   unfolding told
-  told_of = ap (λ (x : Found). carried r x.field b) e
+  told_of = ap (λ (x : Result Found NoField). carried r x b) e
 
 -- A field does the same however many bytes follow.
-same-carried : (r : Run) (b c : List ℕ) (f : Field) → BytesThere f 0 (length b) → carried r f (b ++ c) ≡ carried r f b
-unfolding carried
-same-carried r b c (Open pooled tasks slots tag) w = refl
-same-carried r b c (Each op n) w =
+same_told : (r : Run) (b c : List ℕ) (f : Field) → BytesThere f 0 (length b) → field_told r f (b ++ c) ≡ field_told r f b
+unfolding field_told
+same_told r b c (Open pooled tasks slots tag) w = refl
+same_told r b c (Each op n) w =
     rw (drop-append-le 3 b c (omega (arith, w)), take-append-le n (drop 3 b) c (omega (arith, w, length-drop 3 b)))
-same-carried r b c Malformed w = refl
-same-carried r b c Cut w = refl
-same-carried r b c End w = refl
 
 -- It waits, it ends the run, or it is carried out.
 pub data Next (r : Run) (b : List ℕ) : Type 0 where
   waits : told r b ≡ record { run = r; lines = [] } → size_at r b ≡ 0 → length b < longest_field → Next r b
-  breaks : ((c : List ℕ) → field_of r.opened (b ++ c) ≡ missing Malformed) → field_of r.opened b ≡ missing Malformed → Next r b
+  breaks : ((c : List ℕ) → field_of r.opened (b ++ c) ≡ Err Malformed) → field_of r.opened b ≡ Err Malformed → Next r b
   moves : 3 ≤ size_at r b → size_at r b ≤ length b → ((c : List ℕ) → field_of r.opened (b ++ c) ≡ field_of r.opened b)
-      → ((c : List ℕ) → carried r (field_of r.opened b).field (b ++ c) ≡ told r b) → Next r b
+      → ((c : List ℕ) → carried r (field_of r.opened b) (b ++ c) ≡ told r b) → Next r b
 
 pub next_of : (r : Run) (b : List ℕ) → Next r b
 unfolding carried told size_at
 next_of r b = go (field_of r.opened b) refl (seen r.opened b)
   where
-    go : (f : Found) → field_of r.opened b ≡ f → Seen r.opened b f → Next r b
+    go : (f : Result Found NoField) → field_of r.opened b ≡ f → Seen r.opened b f → Next r b
     go f e (ended h) = waits (told_of r b e) (size_of r b e) (omega (arith, h))
     go f e (cut less) = waits (told_of r b e) (size_of r b e) less
     go f e (wrong h w) = breaks (λ c. same-wrong r.opened b c h w) e
@@ -56,7 +54,7 @@ next_of r b = go (field_of r.opened b) refl (seen r.opened b)
         let there = content_there r.opened (get_or b 0 0) (two_at b 1) 0 (length b) (drop 3 b) w (omega (arith, h)) in
         moves (let s = size_of r b e in omega arith) (let s = size_of r b e in omega arith)
         (λ c. same_whole r.opened b c w h ∙ sym e)
-        (λ c. rw e (same-carried r b c (content_of (get_or b 0 0) (two_at b 1) (drop 3 b)) there))
+        (λ c. rw e (same_told r b c (content_of (get_or b 0 0) (two_at b 1) (drop 3 b)) there))
 
 -- A run that is over takes no field, and one whose field waits takes none.
 pub feed-over : (n : ℕ) (r : Run) (b : List ℕ) → r.over ≡ true → feed_in n r b ≡ unmoved r b
@@ -78,7 +76,7 @@ feed-waits (suc n) r b e s = go r.over refl (feed-waits n r b e s)
     go true h k = cond-true r.over _ _ h
     go false h k = feed-more n r b h ∙ rw (e, s) k
 
-pub broken : (r : Run) (b : List ℕ) → field_of r.opened b ≡ missing Malformed → (told r b).run.over ≡ true
+pub broken : (r : Run) (b : List ℕ) → field_of r.opened b ≡ Err Malformed → (told r b).run.over ≡ true
 unfolding carried malformed told
 broken r b e = rw e
 
@@ -146,14 +144,14 @@ feed-joined zero r [] c h = first_fed r c
 feed-joined zero r (x ∷ b) c h = absurd (omega arith)
 feed-joined (suc n) r b c h = go r.over refl (next_of r b) (feed-joined n)
   where
-    stops : (f : field_of r.opened b ≡ missing Malformed) (g : field_of r.opened (b ++ c) ≡ missing Malformed) → r.over ≡ false
+    stops : (f : field_of r.opened b ≡ Err Malformed) (g : field_of r.opened (b ++ c) ≡ Err Malformed) → r.over ≡ false
         → feed r (b ++ c) ≡ joined (feed_in (suc n) r b) c
     stops f g e =
         one_moved n r b c e (told_of r (b ++ c) g ∙ sym (told_of r b f)) (rw (size_of r (b ++ c) g, size_of r b f))
         (ap (λ (x : Fed). joined x c) (sym (feed-over n (told r b).run (drop (size_at r b) b) (broken r b f))) ∙ refl)
 
     goes : 3 ≤ size_at r b → size_at r b ≤ length b → field_of r.opened (b ++ c) ≡ field_of r.opened b
-        → carried r (field_of r.opened b).field (b ++ c) ≡ told r b → r.over ≡ false
+        → carried r (field_of r.opened b) (b ++ c) ≡ told r b → r.over ≡ false
         → feed (told r b).run (drop (size_at r b) b ++ c) ≡ joined (feed_in n (told r b).run (drop (size_at r b) b)) c
         → feed r (b ++ c) ≡ joined (feed_in (suc n) r b) c
     goes s l f t e x =

@@ -6,14 +6,14 @@ use lib.{Dec.{leb, eqb}, ListN.{length, drop, length-drop}}
 use borrow.Author.Tests.{eqb-false, eq-eqb, ne_eqb}
 use Rattle.trace_field.specs.Page.{Page, written, carries, moved, field_room, takes}
 use Rattle.trace_field.proofs.{Pages.{cond-true, cond-false}, Fields.takes_none}
-use Rattle.runfile.specs.{Field.field_of, declared.Found.Found}
+use Rattle.runfile.specs.{Field.{field_of, taken}}
 use Rattle.trace_replay.specs.Feed.{feed_page_in, feed_page}
 use Rattle.trace_replay.proofs.Feeding.{size_at, Next, waits, breaks, moves, next_of}
 
 module _ (bytes : List ℕ) where
   -- With room, the field at the reading position is carried out, and the position moves behind it.
   pub field_carried : (p : Page) → leb (p.to + field_room) (length p.out) ≡ true
-      → takes bytes p ≡ moved (carries p (field_of p.run.opened (drop p.at bytes)).field (drop p.at bytes)) (size_at p.run (drop p.at bytes))
+      → takes bytes p ≡ moved (carries p (field_of p.run.opened (drop p.at bytes)) (drop p.at bytes)) (size_at p.run (drop p.at bytes))
   unfolding takes size_at
   field_carried p e = cond-true (leb (p.to + field_room) (length p.out)) _ _ e
 
@@ -24,7 +24,7 @@ module _ (bytes : List ℕ) where
     where
       go : Next p.run (drop p.at bytes) → size_at p.run (drop p.at bytes) ≤ length bytes - p.at
       go (waits t s less) = omega (arith, s)
-      go (breaks f g) = let z : size_at p.run (drop p.at bytes) ≡ 0 = ap (λ (x : Found). x.size) g in omega (arith, z)
+      go (breaks f g) = let z : size_at p.run (drop p.at bytes) ≡ 0 = ap taken g in omega (arith, z)
       go (moves s l f t) = omega (arith, l, length-drop p.at bytes)
 
   pub goes_on : (p : Page) → ((takes bytes p).at ≡ p.at → ⊥) → (p.at < (takes bytes p).at) × ((takes bytes p).at ≤ length bytes)

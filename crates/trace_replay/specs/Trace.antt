@@ -3,7 +3,7 @@ use mathlib.Core.{Bool.{false, ◌&&◌, ◌||◌, cond}, List.{List, [], ◌++�
 use Rattle.std.specs.Prelude.{ℕ, zero, suc}
 use lib.{Dec.eqb, ListN.{length, drop, replicate}}
 use Rattle.model.specs.Tables.{unused, tables_of, unopened}
-use Rattle.runfile.specs.Field.{field_of}
+use Rattle.runfile.specs.Field.{field_of, taken}
 use Rattle.lines.specs.Line.{header}
 use Rattle.trace_field.specs.Run.{Run, Told, malformed, carried}
 
@@ -26,8 +26,8 @@ unfoldable pub feed_in : ℕ → Run → List ℕ → Fed
 feed_in zero r b = unmoved r b
 feed_in (suc n) r b =
     let f = field_of r.opened b in
-    let t = carried r f.field b in
-    let more = after t (feed_in n t.run (drop f.size b)) in
+    let t = carried r f b in
+    let more = after t (feed_in n t.run (drop (taken f) b)) in
     cond r.over (unmoved r b) more
 
 -- Every whole field: there are fewer than bytes.

@@ -42,11 +42,12 @@ pub fn feed(
 }
 
 /// The end of the file, where so many bytes are left. Nothing is done where the buffer has no room for a line.
+#[tactic(auto, unfolding(crate::specs::Feed::finish_page))]
 pub fn finish(s: RunState, left: usize, out: &mut [u8]) -> RunState
     ensures { (ws : List (List ℕ)) (ls rs bs ms ns : List ℕ)
         → page_of result out.new ws ls rs bs ms ns ≡ finish_page left (page_of s out.old ws ls rs bs ms ns) }
 {
-    if s.over | (s.opened & (left == 0)) {
+    if s.over || (s.opened && left == 0) {
         return s;
     }
     trace_field::malformed(s, out)

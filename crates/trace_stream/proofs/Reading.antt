@@ -1,49 +1,65 @@
 -- What a round leaves, as the definitions have it.
 use Prim.Native.Nat.{ℕ, ◌-◌, ◌<◌, ◌≤◌}
-use mathlib.Core.{Path.{◌≡◌, refl, sym, ap, ◌∙◌}, Bool.{Bool, true, false, not, ◌&&◌, ◌||◌}, List.{List, [], ◌++◌}}
+use mathlib.Core.{Path.{◌≡◌, refl, sym, ap, ◌∙◌}, Bool.{Bool, true, false}, List.{List, [], ◌++◌}}
 use native.Mathlib.Omega.{arith}
-use lib.{Dec.{leb, ltb}, ListN.{length, take, drop, take-append-drop}, Seq.{slice, take-take, length-slice}}
-use borrow.Author.Tests.{le-leb, lt-leb, ltb-true, lt-ltb, le-ltb, not-true, not-false}
-use Rattle.model.proofs.Tests.Truth.{not_both, and-true, or_right}
+use Rattle.std.proofs.Common.{Result, Ok, Err, OnOk}
+use Rattle.std.specs.Result.{is_ok}
+use Rattle.model.proofs.Tests.Truth.{not_both}
+use lib.{Dec.leb, ListN.{length, take, drop, take-append-drop}, Seq.{slice, take-take, length-slice}}
+use borrow.Author.Tests.{lt-leb}
 use Rattle.runfile.specs.Field.{longest_field}
 use Rattle.trace_field.specs.{Page.{Page, page_of, field_room}, declared.RunState.RunState}
-use Rattle.trace_field.proofs.Pages.{cond-true, cond-false}
+use Rattle.trace_field.proofs.Pages.{cond-false}
 use Rattle.trace_replay.specs.{Trace.fresh, Feed.{Zeros, Begins}}
 use Rattle.trace_replay.specs.Pieces.{from_start, pages_of, begun, after_pieces, last_page, round_page, Gone}
 use Rattle.trace_replay.proofs.{PageLoop.{Stands, round_stands, round_gone}, Remainder.stands-leaves}
+use Rattle.trace_stream.specs.Round.{Goes, Ended, ended}
 
-pub never : {P : Type 0} → ◌≡◌ {A = Bool} true false → P
+never : {P : Type 0} → ◌≡◌ {A = Bool} true false → P
 never z = absurd (not_both refl z)
 
--- What was left stands before what was read: of `rest` bytes of the input that were left, and `full` with those that were read.
-module _ (b input : List ℕ) (rest full : ℕ) where
-  all_read : rest ≤ full → take rest input ≡ b → b ++ slice rest full input ≡ take full input
-  all_read h e =
-      ap (λ (l : List ℕ). l ++ slice rest full input) (sym e ∙ sym (take-take rest full input h)) ∙ take-append-drop rest (take full input)
+-- What is promised of an answer that is `Ok`.
+pub on_ok : {T E P : Type 0} (r : Result T E) → true ≡ is_ok r → OnOk r P → P
+on_ok (Ok x) e h = h
+on_ok (Err x) e h = never e
 
-  module _ (p x : Page) where
-    pub end_round : full ≡ rest → full ≤ length input → length b ≡ rest → x ≡ last_page full p
-        → x ≡ round_page b (slice rest full input) p
-    unfolding round_page
-    end_round e within l h =
-        let none : length (slice rest full input) ≤ 0 = omega (arith, length-slice rest full input within, e) in
-        h ∙ ap (λ (k : ℕ). last_page k p) (e ∙ sym l) ∙ sym (cond-true (leb (length (slice rest full input)) 0) _ _ (le-leb _ _ none))
+-- What was left stands before what was read: of b the bytes of the input that were left, and `full` with those that were read.
+all_read : (b input : List ℕ) (full : ℕ) → take (length b) input ≡ b → length b ≤ full → b ++ slice (length b) full input ≡ take full input
+all_read b input full e h =
+    ap (λ (l : List ℕ). l ++ slice (length b) full input) (sym e ∙ sym (take-take (length b) full input h))
+    ∙ take-append-drop (length b) (take full input)
 
-    pub piece_round : rest ≤ full → full ≤ length input → (full ≡ rest → ⊥) → take rest input ≡ b
-        → x ≡ (pages_of (take full input) (from_start p)).page → x ≡ round_page b (slice rest full input) p
-    unfolding round_page
-    piece_round order within more e h =
-        let some : 0 < length (slice rest full input) = omega (arith, length-slice rest full input within, order, more) in
-        h ∙ ap (λ (l : List ℕ). (pages_of l (from_start p)).page) (sym (all_read order e))
-        ∙ sym (cond-false (leb (length (slice rest full input)) 0) _ _ (lt-leb _ _ some))
+-- A piece taken: the bytes of `old` from `at` to `have` were left, and x is the page after those and what was read.
+module _ (old input : List ℕ) (at have full : ℕ) (fits : have ≤ length old) (front : take (have - at) input ≡ slice at have old)
+    (order : have - at < full) (within : full ≤ length input)
+    (p x : Page) (taken : x ≡ (pages_of (take full input) (from_start p)).page) where
+  abbrev b : List ℕ
+  b = slice at have old
 
--- Whether bytes were read, as the code has it.
-module _ (rest full : ℕ) (over : Bool) where
-  pub none_read : full ≡ rest → false ≡ (ltb rest full && not over)
-  none_read e = rw (le-ltb rest full (omega (arith, e)))
+  as_many : length b ≡ have - at
+  as_many = length-slice at have old fits
 
-  pub some_read : rest ≤ full → (full ≡ rest → ⊥) → not over ≡ (ltb rest full && not over)
-  some_read order more = rw (lt-ltb rest full (omega (arith, order, more)))
+  more : length b < full
+  more = let n = as_many in omega (arith, n, order)
+
+  page : x ≡ round_page b (slice (length b) full input) p
+  unfolding round_page
+  page =
+      let c = slice (length b) full input in
+      let m = more in
+      let some : 0 < length c = omega (arith, length-slice (length b) full input within, m) in
+      taken ∙ ap (λ (l : List ℕ). (pages_of l (from_start p)).page) (sym (all_read b input full (rw as_many front) (omega (arith, m))))
+      ∙ sym (cond-false (leb (length c) 0) _ _ (lt-leb _ _ some))
+
+  pub piece_ends : x.run.over ≡ true → Ended b p x
+  piece_ends over = ended (slice (length b) full input) page (λ some. over)
+
+  pub piece_goes : x.run.over ≡ false → Goes b input p x full
+  piece_goes on = record { more = more; within = within; page = page; on = on }
+
+pub end_round : (b : List ℕ) (left : ℕ) (p x : Page) → left ≡ length b → x ≡ last_page left p → Ended b p x
+unfolding round_page
+end_round b left p x e h = ended [] (h ∙ ap (λ (n : ℕ). last_page n p) e) (λ some. absurd (omega arith))
 
 -- A run before its first read.
 pub first-stands : (s : RunState) (before after : List ℕ) (rows : List (List ℕ)) (ls rs bs ms ns rest : List ℕ) → Zeros rows ls rs bs ms ns
@@ -52,54 +68,25 @@ unfolding after_pieces begun fresh
 first-stands s before after rows ls rs bs ms ns rest z b e =
     record { pieces = []; page = rw (z.0, z.1, z.2, z.3, z.4, z.5) b; left = e }
 
--- A run after one: whether it goes on, or has gone to its end.
-module _ (out : List ℕ) (p p' : Page) (b input : List ℕ) (rest full : ℕ) (failed going : Bool)
-    (n : ℕ) (s : Stands out p b) (order : rest ≤ full) (fits : full ≤ n) (same : length input ≡ n) (e : take rest input ≡ b)
-    (page : failed ≡ false → p' ≡ round_page b (slice rest full input) p)
-    (on : failed ≡ false → going ≡ (ltb rest full && not p'.run.over)) where
-  abbrev c : List ℕ
-  c = slice rest full input
+-- A run after one: it goes on, or has gone to its end.
+module _ (out : List ℕ) (p p' : Page) (b : List ℕ) (s : Stands out p b) where
+  pub round_ends : Ended b p p' → Gone out p'
+  round_ends (ended c page over) = round_gone out p p' b c s page over
 
-  within : full ≤ length input
-  within = omega (arith, fits, same)
+  module _ (input : List ℕ) (e : take (length b) input ≡ b) (full : ℕ) (g : Goes b input p p' full) where
+    pub round_on : Stands out p' (slice p'.at full input)
+    round_on =
+        let c = slice (length b) full input in
+        let some : 0 < length c = omega (arith, length-slice (length b) full input g.within, g.more) in
+        let next = round_stands out p p' b c s g.page some in
+        record {
+          pieces = next.pieces;
+          page = next.page;
+          left = ap (drop p'.at) (sym (all_read b input full e (omega (arith, g.more)))) ∙ next.left;
+        }
 
-  both_false : (x y : Bool) → (x || not y) ≡ false → (x ≡ false) × (y ≡ true)
-  both_false false y h = (refl, not-false y h)
-  both_false true y h = never h
-
-  -- It goes on: bytes were read, and the run is not over.
-  going_on : (failed || not going) ≡ false → (rest < full) × (p'.run.over ≡ false)
-  going_on h =
-      let k = both_false failed going h in
-      let both = and-true (ltb rest full) (not p'.run.over) (sym (on k.0) ∙ k.1) in
-      (ltb-true _ _ both.0, not-true _ both.1)
-
-  pub round_on : (failed || not going) ≡ false → Stands out p' (slice p'.at full input)
-  round_on h =
-      let more = (going_on h).0 in
-      let some : 0 < length c = omega (arith, length-slice rest full input within, more) in
-      let next = round_stands out p p' b c s (page (both_false failed going h).0) some in
-      record {
-        pieces = next.pieces;
-        page = next.page;
-        left = ap (drop p'.at) (sym (all_read b input rest full order e)) ∙ next.left;
-      }
-
-  -- Then less than a field is left, so the next read has room behind it.
-  pub round_leaves : field_room ≤ length out → (failed || not going) ≡ false → full - p'.at < longest_field
-  round_leaves room h =
-      let less = stands-leaves out p' (slice p'.at full input) room (round_on h) (going_on h).1 in
-      omega (arith, less, length-slice p'.at full input within)
-
-  pub round_ends : (failed || not going) ≡ true → not failed ≡ true → Gone out p'
-  round_ends h k =
-      let well = not-true failed k in
-      let stays : (ltb rest full && not p'.run.over) ≡ false = sym (on well) ∙ not-true going (or_right failed (not going) h well) in
-      round_gone out p p' b c s (page well) (λ some. over stays some)
-    where
-      under : (x : Bool) → (x && not p'.run.over) ≡ false → x ≡ true → p'.run.over ≡ true
-      under true m n = not-false p'.run.over m
-      under false m n = absurd (not_both n refl)
-
-      over : (ltb rest full && not p'.run.over) ≡ false → 0 < length c → p'.run.over ≡ true
-      over m some = under (ltb rest full) m (lt-ltb rest full (omega (arith, length-slice rest full input within, some)))
+    -- Then less than a field is left, so the next read has room behind it.
+    pub round_leaves : field_room ≤ length out → full - p'.at < longest_field
+    round_leaves room =
+        let less = stands-leaves out p' (slice p'.at full input) room round_on g.on in
+        omega (arith, less, length-slice p'.at full input g.within)

@@ -5,33 +5,32 @@
 
 mod refill;
 
-ghost use Rattle.std.specs.Prelude.{◌≤◌, ◌<◌, ◌-◌};
-ghost use mathlib.Core.{Path.◌≡◌, Bool.{true, false, not, ◌&&◌}};
-ghost use lib.{Dec.ltb, ListN.{length, take}, Seq.slice};
+ghost use Rattle.std.specs.Prelude.{◌≤◌, ◌<◌, ◌-◌, IfOk, MatchOption};
+ghost use mathlib.Core.{Path.◌≡◌};
+ghost use lib.{ListN.{length, take}, Seq.slice};
 ghost use Rattle.runfile.specs.Field.{longest_field};
 ghost use Rattle.trace_field.specs.Page.{page_of, field_room};
-ghost use Rattle.trace_replay.specs.{Feed.Zeros, Pieces.{round_page, Gone}};
+ghost use Rattle.trace_replay.specs.{Feed.Zeros, Pieces.Gone};
+ghost use Rattle.trace_stream.specs.Round.{Goes, Ended};
 
 use std::io::{Read, Write};
 use trace_field::RunState;
-use trace_pages::AfterPages;
 
-// A run after a read: how many bytes the input holds, those from `state.at` on left; whether to read on; whether a read or write failed.
-#[derive(Clone, Copy)]
-struct Round {
-    state: RunState,
-    have: usize,
-    going: bool,
-    failed: bool,
+/// Why a trace is not whole.
+#[derive(Clone, Copy, Debug, PartialEq, Eq)]
+enum Fault {
+    Read,
+    Write,
+    /// No input is so long: the count of reads has run out.
+    Count,
 }
 
 // Reads behind the bytes that are left, and takes them all, or the end of the input. The buffer has room, so a zero-byte read means end of
-// input.
-fn take_round<R: Read, W: Write, E: Write>(
+// input. Where the run goes on, the answer is how many bytes the input holds, those from `s.at` on left.
+fn take_round<R: Read, W: Write>(
     reader: &mut R,
     writer: &mut W,
-    errors: &mut E,
-    s: RunState,
+    s: &mut RunState,
     input: &mut [u8],
     have: usize,
     out: &mut [u8],
@@ -41,67 +40,39 @@ fn take_round<R: Read, W: Write, E: Write>(
     labels: &mut [u32],
     marks: &mut [u64],
     next: &mut [u64],
-) -> Round
-    requires { (have ≤ length input.old) × (have - s.at < length input.old) }
-    ensures at_bound { (have - s.at ≤ result.have) × (result.have ≤ length input.old) }
-    ensures input_after { take (have - s.at) input.new ≡ slice s.at have input.old }
-    ensures next_after { result.failed ≡ false → page_of result.state out.new rows.new
-        lefts.new rights.new labels.new marks.new next.new
-        ≡ round_page (slice s.at have input.old) (slice (have - s.at) result.have input.new)
-        (page_of s out.old rows.old
-        lefts.old rights.old labels.old marks.old next.old) }
-    ensures going_value { result.failed ≡ false → result.going ≡ (ltb (have - s.at) result.have && not result.state.over) }
+) -> Result<Option<usize>, Fault>
+    requires { (have ≤ length input.old) × (have - s.old.at < length input.old) }
+    ensures input_after { take (have - s.old.at) input.new ≡ slice s.old.at have input.old }
+    ensures run_after { IfOk result (λ answer. MatchOption answer
+        (Ended (slice s.old.at have input.old)
+        (page_of s.old out.old rows.old lefts.old rights.old labels.old marks.old next.old)
+        (page_of s.new out.new rows.new lefts.new rights.new labels.new marks.new next.new))
+        (λ full. Goes (slice s.old.at have input.old) input.new
+        (page_of s.old out.old rows.old lefts.old rights.old labels.old marks.old next.old)
+        (page_of s.new out.new rows.new lefts.new rights.new labels.new marks.new next.new)
+        full)) }
 {
-    let more = refill::refill(reader, input, s.at, have);
-    let left = more.left;
-    let full = more.have;
-    if more.failed {
-        let _ = errors.write_all(b"trace: cannot read\n");
-        return Round {
-            state: s,
-            have: full,
-            going: false,
-            failed: true,
-        };
-    }
+    let left = have.saturating_sub(s.at);
+    let full = refill::refill(reader, input, s.at, have)?;
     if full == left {
-        let t = trace_pages::end(writer, errors, s, full, out);
-        let q = t.state;
-        return Round {
-            state: q,
-            have: full,
-            going: false,
-            failed: !t.written,
-        };
+        trace_pages::end(writer, s, left, out).map_err(|_| Fault::Write)?;
+        return Ok(None);
     }
-    let t = trace_pages::take_piece(
-        writer,
-        errors,
-        s,
-        &input[..full],
-        out,
-        rows,
-        lefts,
-        rights,
-        labels,
-        marks,
-        next,
-    );
-    let q = t.state;
-    Round {
-        state: q,
-        have: full,
-        going: !q.over,
-        failed: !t.written,
+    let bytes = &input[..full];
+    trace_pages::take_piece(
+        writer, s, bytes, out, rows, lefts, rights, labels, marks, next,
+    )
+    .map_err(|_| Fault::Write)?;
+    if s.over {
+        return Ok(None);
     }
+    Ok(Some(full))
 }
 
-// Reads and writes until the file ends, or the run, and tells whether all of the trace was written. The input is so long that a read
-// always has room behind what is left.
-fn rounds<R: Read, W: Write, E: Write>(
+// Reads and writes until the file ends, or the run. The input is so long that a read always has room behind what is left.
+fn rounds<R: Read, W: Write>(
     reader: &mut R,
     writer: &mut W,
-    errors: &mut E,
     input: &mut [u8],
     out: &mut [u8],
     rows: &mut [[u64; layout::RECORD_WORDS]],
@@ -110,42 +81,28 @@ fn rounds<R: Read, W: Write, E: Write>(
     labels: &mut [u32],
     marks: &mut [u64],
     next: &mut [u64],
-) -> AfterPages
+) -> Result<RunState, Fault>
     requires longest_field_in_bounds { longest_field ≤ length input.old }
     requires field_room_in_bounds { field_room ≤ length out.old }
     requires zeros { Zeros rows.old lefts.old rights.old labels.old marks.old next.old }
-    ensures { result.written ≡ true → Gone out.old (page_of result.state out.new rows.new
-        lefts.new rights.new labels.new marks.new next.new) }
+    ensures { IfOk result (λ s. Gone out.old (page_of s out.new rows.new
+        lefts.new rights.new labels.new marks.new next.new)) }
 {
-    let first = trace_pages::begin(writer, errors, out);
-    let mut s = first.state;
-    if !first.written {
-        return AfterPages {
-            state: s,
-            written: false,
-        };
-    }
+    let Ok(mut s) = trace_pages::begin(writer, out) else {
+        return Err(Fault::Write);
+    };
     let mut have = 0;
     // A proved loop has to end, and nothing says that the input does: a count that no run uses up.
-    let mut turns = u64::MAX;
-    while turns > 0 {
-        turns -= 1;
-        let r = take_round(
-            reader, writer, errors, s, input, have, out, rows, lefts, rights, labels, marks, next,
-        );
-        s = r.state;
-        if r.failed | !r.going {
-            return AfterPages {
-                state: s,
-                written: !r.failed,
-            };
+    for _ in 0..u64::MAX {
+        let answer = take_round(
+            reader, writer, &mut s, input, have, out, rows, lefts, rights, labels, marks, next,
+        )?;
+        match answer {
+            Some(full) => have = full,
+            None => return Ok(s),
         }
-        have = r.have;
     }
-    AfterPages {
-        state: s,
-        written: false,
-    }
+    Err(Fault::Count)
 }
 
 /// The whole of the file that the reader gives, over buffers and tables of its own. Where it cannot be read, or its trace not written,
@@ -159,10 +116,9 @@ pub fn trace<R: Read, W: Write, E: Write>(reader: &mut R, writer: &mut W, errors
     let mut labels = [0u32; 1024];
     let mut marks = [0u64; 16];
     let mut next = [0u64; 1024];
-    rounds(
+    let done = rounds(
         reader,
         writer,
-        errors,
         &mut input,
         &mut output,
         &mut rows,
@@ -172,4 +128,11 @@ pub fn trace<R: Read, W: Write, E: Write>(reader: &mut R, writer: &mut W, errors
         &mut marks,
         &mut next,
     );
+    let told: &[u8] = match done {
+        Err(Fault::Read) => b"trace: cannot read\n",
+        Err(Fault::Write) => b"trace: cannot write\n",
+        Ok(_) | Err(Fault::Count) => return,
+    };
+    // Where the errors cannot be written either, nothing is left to tell.
+    let _ = errors.write_all(told);
 }

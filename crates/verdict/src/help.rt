@@ -1,8 +1,9 @@
 //! What `--help` says.
+use std::io;
 use std::io::Write;
 
-/// Whether all of it was written.
-pub fn help<W: Write>(to: &mut W) -> bool {
+/// Writes all of it.
+pub fn help<W: Write>(to: &mut W) -> io::Result<()> {
     to.write_all(
         b"usage: verdict < HISTORY
 
@@ -28,5 +29,4 @@ A run of trace as a history:
   tools/runfile RUN.txt | trace | tools/history RUN.txt | verdict
 ",
     )
-    .is_ok()
 }

@@ -178,7 +178,3 @@ pub inside-next : (links labels : List ℕ) (slots n i x : ℕ) → i < n → In
 unfolding trail
 inside-next links labels slots n i x h p =
     let left : n - i ≡ suc (n - (i + 1)) = omega arith in subst (λ (m : ℕ). Inside slots (trail links labels m x)) left p
-
-pub place-low : (up : Bool) (n i : ℕ) → i < n → place up n i < n
-place-low true n i h = h
-place-low false n i h = omega arith

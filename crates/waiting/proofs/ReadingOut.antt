@@ -7,7 +7,8 @@ use borrow.Author.Tests.{le-ltb, ltb-false, ltb-true, ne_eqb, not-false}
 use Rattle.model.specs.{Tables.Tables, Sound.{control_sound, row_tests, rows_fit}, Report.waiting}
 use Rattle.model.specs.{Walk.{Walk, broken, contents, entries, is_broken, met}, Refusals.{Rule, rule, first, table_rules}}
 use Rattle.model.proofs.Tests.{Rules.{tests, cleared, first-refused}, Truth.{not_both, or-false, split}}
-use Rattle.walk.specs.declared.{Beginning.TheVariants.At, Tally.TheVariants.{Broken, Labels}, Way.Way}
+use Rattle.std.specs.Prelude.{Some, Ok}
+use Rattle.walk.specs.declared.{Way.Way}
 use Rattle.walk.specs.{Ways.{ahead, beginning_of, links_on, turned_back, way_of}, Counted.counted}
 use Rattle.walk.proofs.{Along.begins-at, Counting.all-counted}
 use Rattle.waiting.specs.Waiting.{Written, kept, labels_of, onto, read_out, slots_of, too_short, waiting_refusal}
@@ -44,7 +45,7 @@ module _ (q : Tables) (slots labels : List ℕ) where
     unfolding rows_fit
     rows = let t = tests (row_tests false q.control.slots q) passed.1 in (ltb-true _ _ t.0, ltb-true _ _ t.1.0, ltb-true _ _ t.1.1.0)
 
-    pub ready : (w : Way) → At w ≡ beginning_of q.control → Walks w q.lefts q.rights q.labels
+    pub ready : (w : Way) → Ok (Some w) ≡ beginning_of q.control → Walks w q.lefts q.rights q.labels
     unfolding way_of
     ready w b =
         let at = begins-at q.control w b in
@@ -60,15 +61,11 @@ module _ (slots labels : List ℕ) where
   pub nothing : kept 0 slots labels ≡ written_out (entries []) slots labels
   nothing = rw (le-ltb (length slots) 0 (omega arith), le-ltb (length labels) 0 (omega arith))
 
-  pub lost : (w : Way) (v : Walk) → Broken ≡ counted v → kept 34 slots labels ≡ written_out (turned_back w v) slots labels
-  lost w (entries l) t = absurd (let z : ◌≡◌ {A = ℕ} 0 1 = cc in omega arith)
-  lost w broken t = refl
-
-  pub short : (v : Walk) (m : ℕ) → Labels m ≡ counted v → too_short m slots labels ≡ true → kept 12 slots labels ≡ written_out v slots labels
+  pub short : (v : Walk) (m : ℕ) → Ok m ≡ counted v → too_short m slots labels ≡ true → kept 12 slots labels ≡ written_out v slots labels
   short (entries l) m t h = rw (ap (λ (k : ℕ). too_short k slots labels) (sym (all-counted (entries l) m t).1) ∙ h)
   short broken m t h = absurd (not_both refl (all-counted broken m t).0)
 
-  writes : (v : Walk) (m : ℕ) → Labels m ≡ counted v → too_short m slots labels ≡ false → (s l : List ℕ)
+  writes : (v : Walk) (m : ℕ) → Ok m ≡ counted v → too_short m slots labels ≡ false → (s l : List ℕ)
       → s ≡ onto (slots_of (met v)) slots → l ≡ onto (labels_of (met v)) labels
       → ◌≡◌ {A = Written} (record { reply = record { code = 0; count = m }; slots = s; labels = l }) (written_out v slots labels)
   writes (entries l) m t h s c es ec =
@@ -81,7 +78,7 @@ module _ (w : Way) (lefts rights labels slots copies : List ℕ) (n : ℕ) where
   abbrev walk : Walk
   walk = turned_back w (ahead w lefts rights labels)
 
-  module _ (t : Labels n ≡ counted walk) (h : too_short n slots copies ≡ false) (right : Bool) (e : w.rightward ≡ right) where
+  module _ (t : Ok n ≡ counted walk) (h : too_short n slots copies ≡ false) (right : Bool) (e : w.rightward ≡ right) where
     abbrev links : List ℕ
     links = cond right rights lefts
 

@@ -12,7 +12,7 @@ ghost use Rattle.waiting.specs.Laid.{Lays, Walks, trail, place, laid};
 
 use model::Control;
 use sound::Lengths;
-use walk::{Beginning, Tally, Way};
+use walk::{Unsound, Way};
 
 /// The answer as C sees it.
 #[repr(C)]
@@ -29,10 +29,8 @@ fn place(up: bool, n: u64, i: u64) -> usize
     requires { i < n }
     ensures { result ≡ place up n i }
 {
-    if up {
-        return i as usize;
-    }
-    (n - 1 - i) as usize
+    let k = if up { i } else { n - 1 - i };
+    k as usize
 }
 
 /// n slots from the first one along the way, and their labels, so that they stand from left to right. The walk is
@@ -44,16 +42,12 @@ fn lay(w: Way, n: u64, links: &[u64], labels: &[u32], slots: &mut [u64], copies:
     ensures copies_after { copies.new
         ≡ laid w.rightward n 0 (labels_of (trail links.now labels.now n w.first)) copies.old }
 {
-    let mut i: u64 = 0;
     let mut x = w.first;
-    while i < n {
+    for i in 0..n {
         let k = place(w.rightward, n, i);
-        let at = x as usize;
-        let label = labels[at];
         slots[k] = x;
-        copies[k] = label;
+        copies[k] = labels[x as usize];
         x = walk::follow(links, x);
-        i += 1;
     }
 }
 
@@ -92,8 +86,7 @@ fn write_out(
     ensures { record { reply = result; slots = slots.new; labels = copies.new } ≡ written_out
         (turned_back w (ahead w lefts.now rights.now labels.now)) slots.old copies.old }
 {
-    let walked = walk::count(w, lefts, rights);
-    let Tally::Labels(n) = walked else {
+    let Ok(n) = walk::count(w, lefts, rights) else {
         return refused(34);
     };
     if ((slots.len() as u64) < n) | ((copies.len() as u64) < n) {
@@ -121,23 +114,15 @@ fn read_out(
         (tables_of c lefts.now rights.now labels.now marks.now next)
         slots.old copies.old }
 {
-    let t = Lengths {
-        records: 0,
-        lefts: lefts.len(),
-        rights: rights.len(),
-        labels: labels.len(),
-        marks: marks.len(),
-        next: 0,
-    };
+    let t = Lengths::of(0, lefts, rights, labels, marks, &[]);
     let why = refusal(c, t);
     if why != 0 {
         return refused(why);
     }
-    let start = walk::begin(c);
-    match start {
-        Beginning::Empty => WaitingReply { code: 0, count: 0 },
-        Beginning::Unsound => refused(34),
-        Beginning::At(w) => write_out(w, slots, copies, lefts, rights, labels),
+    match walk::begin(c) {
+        Ok(None) => WaitingReply { code: 0, count: 0 },
+        Ok(Some(w)) => write_out(w, slots, copies, lefts, rights, labels),
+        Err(Unsound) => refused(34),
     }
 }
 

@@ -7,9 +7,9 @@ use borrow.Author.Tests.{eqb-true, eqb-false, le-leb}
 use Rattle.word.specs.{Anchor.anchor_of, Link.{link_of, spare_of}}
 use Rattle.model.specs.{declared.{Entry.Entry, Control.Control}, Sides.is_empty, Tables.Tables, Sound.{from1, link_sound}}
 use Rattle.model.{specs.Walk.{Walk, along, and_then, broken, contents, entries}, proofs.Tests.Truth.{split, and-true}}
-use Rattle.walk.specs.declared.{Beginning.{Beginning, TheVariants.{At, Empty, Unsound}}, Way.Way}
-use Rattle.walk.specs.{declared.Led.{Led, TheVariants.{Broken, Last, Slot}}, Over.{Made, made, lost, over}}
-use Rattle.walk.specs.Ways.{way_of, beginning_of, links_on, leads_to, led_from, ahead, turned_back, walk_by}
+use Rattle.std.specs.Prelude.{Option, None, Some, Result, Ok, Err}
+use Rattle.walk.specs.{declared.{Unsound.Unsound, Way.Way}, Over.{Made, made, lost, over}}
+use Rattle.walk.specs.Ways.{unsound, way_of, beginning_of, links_on, leads_to, led_from, ahead, turned_back, walk_by}
 
 -- The lower half of a sound link word is its slot.
 pub half_slot : (slots l : ℕ) → link_sound slots l ≡ true → l % 2 ^ 32 ≡ (link_of l).slot
@@ -51,14 +51,14 @@ module _ (w : Way) (lefts rights labels : List ℕ) where
       go true e g = rw (le-leb 1 slot (omega (arith, g)), (and-true (eqb (spare_of word) 0) (leb slot w.slots) e).1)
       go false e g = absurd (g refl)
 
-  pub led_to : (x y : ℕ) → Slot y ≡ led_from w lefts rights x → from1 w.slots y ≡ true
+  pub led_to : (x y : ℕ) → Ok (Some y) ≡ led_from w lefts rights x → from1 w.slots y ≡ true
   unfolding led_from
   led_to x y e = go (eqb x w.last) (eqb (leads_to w lefts rights x) 0) refl e
     where
-      go : (a b : Bool) → eqb (leads_to w lefts rights x) 0 ≡ b → Slot y ≡ cond a Last (cond b Broken (Slot (leads_to w lefts rights x)))
-          → from1 w.slots y ≡ true
-      go true b f e = absurd (let z : ◌≡◌ {A = ℕ} 0 1 = cc in omega arith)
-      go false true f e = absurd (let z : ◌≡◌ {A = ℕ} 0 1 = cc in omega arith)
+      go : (a b : Bool) → eqb (leads_to w lefts rights x) 0 ≡ b
+          → Ok (Some y) ≡ cond a (Ok None) (cond b (Err unsound) (Ok (Some (leads_to w lefts rights x)))) → from1 w.slots y ≡ true
+      go true b f e = cc
+      go false true f e = cc
       go false false f e = let z : y ≡ leads_to w lefts rights x = cc in ap (from1 w.slots) z ∙ real x (eqb-false (leads_to w lefts rights x) 0 f)
 
 -- What waits, by where its walk begins.
@@ -70,7 +70,7 @@ module _ (q : Tables) where
   unfolding contents way_of
   by_way = split (eqb (anchor_of q.control.anchor).status 2) (λ e. rw e) (λ e. rw e)
 
-  pub waits : (b : Beginning) → b ≡ beginning_of q.control → contents q ≡ walk_by b q.lefts q.rights q.labels
+  pub waits : (b : Result (Option Way) Unsound) → b ≡ beginning_of q.control → contents q ≡ walk_by b q.lefts q.rights q.labels
   unfolding beginning_of
   waits b e =
       let w = way_of q.control in
@@ -78,17 +78,17 @@ module _ (q : Tables) where
       ∙ split (is_empty (anchor_of q.control.anchor)) (λ z. rw z)
       (λ z. rw z (split (from1 w.slots w.first) (λ y. rw y)
       (λ y. rw (y, nowhere w q.lefts q.rights q.labels w.slots w.first y))))
-      ∙ ap (λ (b : Beginning). walk_by b q.lefts q.rights q.labels) (sym e)
+      ∙ ap (λ (b : Result (Option Way) Unsound). walk_by b q.lefts q.rights q.labels) (sym e)
 
 -- It begins at a slot of its way.
-pub begins-at : (c : Control) (w : Way) → At w ≡ beginning_of c → (w ≡ way_of c) × (from1 w.slots w.first ≡ true)
+pub begins-at : (c : Control) (w : Way) → Ok (Some w) ≡ beginning_of c → (w ≡ way_of c) × (from1 w.slots w.first ≡ true)
 unfolding beginning_of
 begins-at c w e = go (is_empty (anchor_of c.anchor)) (from1 (way_of c).slots (way_of c).first) refl e
   where
-    go : (a b : Bool) → from1 (way_of c).slots (way_of c).first ≡ b → At w ≡ cond a Empty (cond b (At (way_of c)) Unsound)
-        → (w ≡ way_of c) × (from1 w.slots w.first ≡ true)
-    go true b f e = absurd (let z : ◌≡◌ {A = ℕ} 0 1 = cc in omega arith)
-    go false false f e = absurd (let z : ◌≡◌ {A = ℕ} 0 1 = cc in omega arith)
+    go : (a b : Bool) → from1 (way_of c).slots (way_of c).first ≡ b
+        → Ok (Some w) ≡ cond a (Ok None) (cond b (Ok (Some (way_of c))) (Err unsound)) → (w ≡ way_of c) × (from1 w.slots w.first ≡ true)
+    go true b f e = absurd cc
+    go false false f e = absurd cc
     go false true f e = let z : w ≡ way_of c = cc in (z, ap (λ (v : Way). from1 v.slots v.first) z ∙ f)
 
 -- What comes of s with n slots met and the walk at slot x.
@@ -115,12 +115,12 @@ module _ {S : Type 0} (f : S → Entry → S) (w : Way) (lefts rights labels : L
     met = f s (entry w lefts rights labels x)
 
     -- What comes of a turn, by where the walk goes on.
-    abbrev pub turned : Led → Made S
-    turned Last = made met
-    turned Broken = lost
-    turned (Slot y) = comes (n + 1) met y
+    abbrev pub turned : Result (Option ℕ) Unsound → Made S
+    turned (Ok None) = made met
+    turned (Err e) = lost
+    turned (Ok (Some y)) = comes (n + 1) met y
 
-    pub turns : (r : Led) → r ≡ led_from w lefts rights x → comes n s x ≡ turned r
+    pub turns : (r : Result (Option ℕ) Unsound) → r ≡ led_from w lefts rights x → comes n s x ≡ turned r
     unfolding led_from
     turns r g =
         let y = leads_to w lefts rights x in

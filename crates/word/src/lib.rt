@@ -7,7 +7,8 @@
 ghost use Rattle.std.specs.Prelude.{◌≡◌};
 ghost use Rattle.word.specs.{Anchor.{pack_anchor, anchor_of, empty_anchor}, Link.{pack_link, link_of}};
 
-/// The queue's two ends, with a status and a tag that every change raises.
+/// The queue's two ends, with a status and a tag that every change raises. The status is a number, since a word that C
+/// lends may hold 3, which is no status.
 #[derive(Clone, Copy)]
 pub struct Anchor {
     pub tag: u64,
@@ -36,7 +37,7 @@ impl Anchor {
 
     pub const TAG_MASK: u64 = (1 << Self::TAG_BITS) - 1;
 
-    /// The word of the fields, each cut to its width.
+    /// The word of the fields, each cut to its width: what does not fit is lost, so it is no `From`.
     pub fn pack(self) -> u64
         ensures { result ≡ pack_anchor self }
     {

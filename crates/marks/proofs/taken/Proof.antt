@@ -2,6 +2,7 @@
 use mathlib.Core.Path.{◌≡◌, ap, ◌∙◌}
 use Prim.Native.Nat.{ℕ, ◌≤◌, ◌+◌, ◌/◌, min}
 use native.Mathlib.Omega.{arith}
+use borrow.Author.Rules.{rules}
 use lib.Count.{ones}
 use Rattle.model.specs.Report.{taken_slots}
 use Rattle.marks.specs.Masked.{masked_word}
@@ -15,8 +16,8 @@ module _ (m : tie.After-masked) where
   first : ones m.masked.result ≡ marks given.args.marks.now (min 63 given.args.slots)
   first =
       let a = given.args in
-      ap ones (m.masked.ensures ∙ ap (λ (x : ℕ). masked_word x 0 a.slots) m.before.word_at.ensures)
-      ∙ first_word a.marks.now a.slots (omega (arith, m.before.word_at.ensures))
+      ap ones (m.masked.ensures ∙ ap (λ (x : ℕ). masked_word x 0 a.slots) m.before.get_or.ensures)
+      ∙ first_word a.marks.now a.slots (omega (arith, m.before.get_or.ensures))
 
   few : ones m.masked.result ≤ 63
   few = omega (arith, first, marks_le given.args.marks.now (min 63 given.args.slots))
@@ -43,9 +44,9 @@ module _ (m : tie.After-masked-2) where
   unfolding taken_slots
   total =
       let a = lent.args in
-      let w = m.masked-2.ensures ∙ ap (λ (x : ℕ). masked_word x (a.slots / 64) a.slots) m.before.word_at-2.ensures in
+      let w = m.masked-2.ensures ∙ ap (λ (x : ℕ). masked_word x (a.slots / 64) a.slots) m.before.get_or-2.ensures in
       (λ i. m.before.before.before_last-n.ensures i + ones (w i))
-      ∙ last_word a.marks.now a.slots (omega arith) (omega (arith, m.before.word_at-2.ensures))
+      ∙ last_word a.marks.now a.slots (omega arith) (omega (arith, m.before.get_or-2.ensures))
 
   room : m.before.before.before_last-n.result + ones m.masked-2.result ≤ lent.args.slots
   room = omega (arith, total, marks_le lent.args.marks.now lent.args.slots)
@@ -58,12 +59,12 @@ pub taken_spec : {M : Type 1} → statement M
 taken_spec =
     tie.close
     (tie.spec
-    (λ _ _. tt)
+    (λ c κs. search rules)
     (λ c κs. omega arith)
     (λ c. omega (arith, few c))
     returns
     before_last_requires
-    (λ _ _. tt)
+    (λ c κs. search rules)
     (λ c κs. omega arith)
     (λ c. omega (arith, room c))
     (λ c. omega (arith, room c))

@@ -3,12 +3,13 @@ use mathlib.Core.{Path.{◌≡◌, ◌∙◌, ap, refl, subst, sym}, Bool.true, 
 use Prim.Native.Nat.{ℕ, ◌≤◌}
 use native.Mathlib.Omega.{arith}
 use lib.{Dec.eqb, ListN.length, Seq.set-get_or}
-use Rattle.model.specs.{declared.{Outcome.TheVariants.Refused, Op.TheVariants.Step}, Lists.All}
+use Rattle.model.specs.Outcomes.{Refused}
+use Rattle.model.specs.{declared.Op.TheVariants.Step, Lists.All}
 use Rattle.model.specs.{Tables.{Queue, task_at, unused}, Refusals.{Rule, alone, first, step_refusal, step_rules}}
 use Rattle.model.specs.{Calls.{Acted, Done, act, finish, step, step_lent}, History.{Event, Request, final, run}}
 use Rattle.model.specs.LentSteps.{LentKnown, LentStand, Lendable, Turn, requested, final_turns, lent, request_of}
 use Rattle.model.specs.LentSteps.{run_turns, take_turn}
-use Rattle.model.proofs.Tests.Truth.{by_test, not_both}
+use Rattle.model.proofs.Tests.Truth.{by_test, not_both, same_refusal}
 use Rattle.model.proofs.Laws.{Lengths.act_lengths, Sizes.act-tasks, LentRecord.{lent_record, with_row}}
 
 -- A task's own record, put where it lies.
@@ -52,9 +53,6 @@ not_given : (n : ℕ) (l : List Rule) → n ≢ 0 → All (λ (x : Rule). x.appl
 not_given n [] z h = λ e. z (sym e)
 not_given n (x ∷ l) z h = by_test (λ (k : ℕ). k ≢ n) x.applies (λ t. h.0 t) (λ f. not_given n l z h.1)
 
-refused_by : {n m : ℕ} → Refused n ≡ Refused m → n ≡ m
-refused_by e = cc
-
 pub lent-known : LentKnown
 unfolding step_lent step step_refusal finish
 lent-known q r = by_test (λ (a : Acted). a.outcome ≢ Refused 13) (eqb (step_refusal q alone r.call) 0)
@@ -65,4 +63,4 @@ lent-known q r = by_test (λ (a : Acted). a.outcome ≢ Refused 13) (eqb (step_r
         (λ t w. omega arith),
         ((λ t. absurd (not_both t refl)), ((λ t w. omega arith), ((λ t w. omega arith), ((λ t w. omega arith), tt)))),
       ),
-    ) (refused_by e))
+    ) (same_refusal e))

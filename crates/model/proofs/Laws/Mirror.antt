@@ -12,14 +12,14 @@ use native.Mathlib.Omega.{arith}
 use lib.{Dec.{eqb, leb, ltb}, ListN.{set, drop, replicate, length-map, get_or-map}}
 use Rattle.word.specs.Anchor.{empty_anchor}
 use Rattle.model.specs.declared.{Call.Call, Record.Record, Op.{Op, TheVariants.{Push, Pop, PushPooled, Step}}}
-use Rattle.model.specs.declared.{Asked.Asked, Answer.TheVariants.Running, Outcome.TheVariants.Moved}
+use Rattle.model.specs.Outcomes.{Moved, Opened, Refused}
+use Rattle.model.specs.declared.{Asked.Asked, Answer.TheVariants.Running}
 use Rattle.model.specs.Tables.{Tables, Queue, asking, started, task_at, unused, with_anchor, with_call, with_taken}
 use Rattle.model.specs.Refusals.{open_refusal, Lent, among, alone, fits, start_refusal, named_push, pooled_push}
 use Rattle.model.specs.{Refusals.nothing_asked, Calls.{act_on, act, step_lent}, Lists.zeroed}
 use Rattle.model.specs.Calls.{opened, OpenDone, open_as, Acted, decide, push_start, push_pooled_start, pop_start, back}
 use Rattle.model.specs.Mirror.{mirror_side, mirror_status, mirror_word, mirror_control, mirror_tables, mirror_record}
 use Rattle.model.specs.Mirror.{mirror_task, mirror_queue, mirror_op, mirror_acted, mirror_opened, mirror_done, Mirrored}
-use Rattle.model.specs.declared.Opening.TheVariants as opening
 use Rattle.model.proofs.Laws.Mirror.{Packed.mirror_pack, Twice.mirror_twice, Steps.{decide_mirror, step_mirror}}
 use Rattle.model.proofs.Laws.Mirror.Sound.{rows_fit_mirror, start_refusal_mirror}
 
@@ -112,12 +112,12 @@ open_mirror pooled q tasks slots tag =
     ∙ go (eqb (open_refusal pooled q tasks slots) 0) (open_refusal pooled q tasks slots)
   where
     settled : Queue → ℕ → Queue → OpenDone
-    settled q why new = cond (eqb why 0) (record { queue = new; outcome = opening.Opened }) (record { queue = q; outcome = opening.Refused why })
+    settled q why new = cond (eqb why 0) (record { queue = new; outcome = Opened }) (record { queue = q; outcome = Refused why })
 
-    go : (b : Bool) (why : ℕ) → cond b (record { queue = mirror_queue (opened pooled q tasks slots tag); outcome = opening.Opened })
-        (record { queue = mirror_queue q; outcome = opening.Refused why })
-        ≡ mirror_opened (cond b (record { queue = opened pooled q tasks slots tag; outcome = opening.Opened })
-        (record { queue = q; outcome = opening.Refused why }))
+    go : (b : Bool) (why : ℕ) → cond b (record { queue = mirror_queue (opened pooled q tasks slots tag); outcome = Opened })
+        (record { queue = mirror_queue q; outcome = Refused why })
+        ≡ mirror_opened (cond b (record { queue = opened pooled q tasks slots tag; outcome = Opened })
+        (record { queue = q; outcome = Refused why }))
     go true why = refl
     go false why = refl
 

@@ -6,12 +6,12 @@ use lib.{Dec.eqb, Seq.set-get_or}
 use borrow.Author.Tests.{eqb-false, ne_eqb, not-true}
 use Rattle.model.specs.{declared.{Call.Call, Record.Record, Answer.{Answer, TheVariants.Running}}, Lists.All}
 use Rattle.model.specs.declared.Op.{Op, TheVariants.{Push, Pop, PushPooled, Step}}
-use Rattle.model.specs.{declared.Outcome.TheVariants.{Refused, Moved}, Tables.{Tables, Queue, unused, task_at}}
+use Rattle.model.specs.Outcomes.{Moved, Opened, Refused}
+use Rattle.model.specs.Tables.{Tables, Queue, unused, task_at}
 use Rattle.model.specs.Refusals.{Rule, rule, first, open_rules, open_refusal, Lent, among, alone, fits, start_rules}
 use Rattle.model.specs.Refusals.{start_refusal, named_push, pooled_push, nothing_asked, step_rules, step_refusal}
 use Rattle.model.specs.Calls.{opened, OpenDone, open_as, Acted, decide, push_start, push_pooled_start, pop_start, step}
 use Rattle.model.specs.Calls.{finish, act_on, back, act, step_lent}
-use Rattle.model.specs.declared.Opening.TheVariants as opening
 use Rattle.model.proofs.Tests.{Rules.numbered, Truth.and-true}
 
 -- No rule of a list applies; and the first of a list to apply has number n.
@@ -87,8 +87,8 @@ lent-refused q r n h = unmoved (decided q alone r Step) n h
 
 -- An opening, likewise.
 pub data OpenDecided (rules : List Rule) (q new : Queue) : OpenDone → Type 0 where
-  accepted-opening : NoneApplies rules → OpenDecided rules q new (record { queue = new; outcome = opening.Opened })
-  refused-opening : (n : ℕ) → FirstApplies n rules → OpenDecided rules q new (record { queue = q; outcome = opening.Refused n })
+  accepted-opening : NoneApplies rules → OpenDecided rules q new (record { queue = new; outcome = Opened })
+  refused-opening : (n : ℕ) → FirstApplies n rules → OpenDecided rules q new (record { queue = q; outcome = Refused n })
 
 pub open_decided : (pooled : Bool) (q : Queue) (tasks slots tag : ℕ)
     → OpenDecided (open_rules pooled q tasks slots) q (opened pooled q tasks slots tag) (open_as pooled q tasks slots tag)
@@ -97,16 +97,16 @@ open_decided pooled q tasks slots tag = go (find (open_rules pooled q tasks slot
   where
     go : {n : ℕ} → Found (open_rules pooled q tasks slots) n
         → OpenDecided (open_rules pooled q tasks slots) q (opened pooled q tasks slots tag)
-        (cond (eqb n 0) (record { queue = opened pooled q tasks slots tag; outcome = opening.Opened })
-        (record { queue = q; outcome = opening.Refused n }))
+        (cond (eqb n 0) (record { queue = opened pooled q tasks slots tag; outcome = Opened })
+        (record { queue = q; outcome = Refused n }))
     go (none f) = accepted-opening f
     go (some n h f) = rw (ne_eqb n 0 h) (refused-opening n f)
 
-pub open_refused : (pooled : Bool) (q : Queue) (tasks slots tag n : ℕ) → (open_as pooled q tasks slots tag).outcome ≡ opening.Refused n
+pub open_refused : (pooled : Bool) (q : Queue) (tasks slots tag n : ℕ) → (open_as pooled q tasks slots tag).outcome ≡ Refused n
     → (open_as pooled q tasks slots tag).queue ≡ q
 open_refused pooled q tasks slots tag n h = go (open_decided pooled q tasks slots tag) h
   where
     go : {done : OpenDone} → OpenDecided (open_rules pooled q tasks slots) q (opened pooled q tasks slots tag) done
-        → done.outcome ≡ opening.Refused n → done.queue ≡ q
+        → done.outcome ≡ Refused n → done.queue ≡ q
     go (accepted-opening f) h = absurd (let z : ◌≡◌ {A = ℕ} 0 1 = cc in omega arith)
     go (refused-opening m f) h = refl

@@ -2,7 +2,8 @@
 use mathlib.Core.{Bool.true, Path.{◌≡◌, refl, ap}}
 use Prim.Native.Nat.{ℕ, zero, suc}
 use native.Mathlib.Omega.{arith}
-use Rattle.model.specs.{declared.{Op.TheVariants.Step, Outcome.TheVariants.Refused}, Tables.Queue, Calls.act}
+use Rattle.model.specs.Outcomes.{Refused}
+use Rattle.model.specs.{declared.Op.TheVariants.Step, Tables.Queue, Calls.act}
 use Rattle.model.specs.{Ends.{is_moved, is_running}, Solo.{SoloDone, solo_steps, solo_run}}
 use Rattle.model.proofs.Tests.Truth.{by_test, either, not_both}
 

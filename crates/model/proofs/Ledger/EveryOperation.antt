@@ -14,7 +14,8 @@ use Rattle.model.specs.Refusals.{among, pop_refusal, push_refusal, push_pooled_r
 use Rattle.model.specs.Tables.{Queue, asking, is_pooled, marked, record_at, started, task_at, unused, with_call}
 use Rattle.model.specs.declared.Answer.{TheVariants.{Empty, NoFreeSlot, Popped, Pushed, Running}, Answer}
 use Rattle.model.specs.declared.{Entry.Entry, Op.{Op, TheVariants.{Pop, Push, PushPooled, Step}}, Call.Call}
-use Rattle.model.specs.declared.{Record.Record, Outcome.TheVariants.{Moved, Refused}}
+use Rattle.model.specs.Outcomes.{Moved, Refused}
+use Rattle.model.specs.declared.{Record.Record}
 use Rattle.model.proofs.{Tests.Truth.{by_test, decide_eq, not_both}, Lists.Store.set_back}
 use Rattle.model.proofs.Machine.{Answers.EndsAt, Machine.upd, Laws.{upd_other, upd_same}}
 use Rattle.model.proofs.{Invariant.Invariant.Inv, Bridge.Operations.{step-pooled, step-told, task_of}}

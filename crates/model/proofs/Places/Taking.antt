@@ -9,7 +9,7 @@ use Rattle.model.proofs.Lists.{Deque.{Distinct, front, put, rest, seen, took}, I
 use Rattle.model.proofs.Machine.Book.{BookCall, effect, given, granted, is_no_free_slot, noted, told}
 use Rattle.model.proofs.Machine.{Laws.{stable_pushing, upd_other, upd_same}, Machine.{tip, upd, with_anchor}}
 use Rattle.model.proofs.Machine.Machine.{Anchor, Move, Rec, Shared, Touch, apply, at11, goes, is_giving, pop}
-use Rattle.model.proofs.Machine.Machine.{none, popped, push, pushed, pushing, put_anchor, running, runs, stable}
+use Rattle.model.proofs.Machine.Machine.{popped, push, pushed, pushing, put_anchor, running, runs, stable}
 use Rattle.model.proofs.Invariant.{Owners.{Owner, Intact, free, held, queued, shows}, Rely.Rely}
 use Rattle.model.proofs.Invariant.{Shape.{Made, Shape}, Tasks.{Bare, Before, Own, Sole}}
 use Rattle.model.proofs.Places.{Effects.{noted_pop, noted_push}, Marking.{marked-at, shows_own}}

@@ -9,7 +9,8 @@ use Rattle.model.specs.{Places.{Move, word_found, move}, Progress.{AnsweredWithi
 use Rattle.model.specs.{Solo.{solo_run, solo_steps}, Refusals.{among, step_refusal}, Route.{goes, counted}}
 use Rattle.model.specs.Tables.{Queue, Tables, record_at, task_at, unused}
 use Rattle.model.specs.declared.Answer.{TheVariants.{Empty, NoFreeSlot, Popped, Pushed, Running}, Answer}
-use Rattle.model.specs.declared.{Call.Call, Record.Record, Op.TheVariants.Step, Outcome.TheVariants.Moved}
+use Rattle.model.specs.Outcomes.{Moved}
+use Rattle.model.specs.declared.{Call.Call, Record.Record, Op.TheVariants.Step}
 use Rattle.model.proofs.{Tests.Truth.{by_test, not_both, split}, Machine.{Answers.EndsAt, Laws.upd_same}}
 use Rattle.model.proofs.{Bridge.{Accepted.Lies, Decoded.{next, seen_move}}, Ledger.Matched.Matched}
 use Rattle.model.proofs.Bridge.Operations.{not_idle, reply, state_is, step-ends, stepped, task_of}

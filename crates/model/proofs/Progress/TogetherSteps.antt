@@ -13,7 +13,7 @@ use Rattle.model.specs.Tables.{with_call, with_taken, Queue, Tables, asking, is_
 use Rattle.model.specs.Refusals.{among, pop_refusal, push_refusal, push_pooled_refusal, step_refusal}
 use Rattle.model.specs.declared.Answer.{TheVariants.{Empty, NoFreeSlot, Popped, Pushed, Running}, Answer}
 use Rattle.model.specs.declared.{Op.{Op, TheVariants.{Pop, Push, PushPooled, Step}}, Call.Call, Record.Record}
-use Rattle.model.specs.declared.Outcome.TheVariants.{Moved, Refused}
+use Rattle.model.specs.Outcomes.{Moved, Refused}
 use Rattle.model.proofs.{Tests.Truth.{by_test, either, not_both, or-false, split}, Lists.Store.set_back}
 use Rattle.model.proofs.{Machine.{Book.effect, Machine.upd}, Invariant.Tasks.Task, Tags.Sum.total_le}
 use Rattle.model.proofs.Bridge.Accepted.{Lies, Stepping, pop_accepted, push_accepted, push_pooled_accepted}

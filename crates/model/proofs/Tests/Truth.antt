@@ -1,6 +1,8 @@
 -- Truth values: branches with their test as an equation, and what holds where a test does.
+use Rattle.std.specs.Prelude.{Result, Ok, Err}
+use Rattle.model.specs.{declared.Refusal.Refusal, Outcomes.Refused}
 use mathlib.Core.{Bool.{Bool, beq, ◌&&◌, ◌||◌, cond, false, true}, Logic.{◌≢◌, ◌⊎◌, inl, inr}}
-use mathlib.Core.Path.{◌≡◌, refl, sym}
+use mathlib.Core.Path.{◌≡◌, refl, sym, ap}
 use Prim.Native.Nat.{ℕ}
 use native.Mathlib.Omega.{arith}
 use lib.Dec.{eqb}
@@ -74,3 +76,11 @@ beq_eq false false e = refl
 pub beq_of : (a b : Bool) → a ≡ b → beq a b ≡ true
 beq_of true b e = rw (sym e)
 beq_of false b e = rw (sym e)
+
+-- Refusals that are the same have the same number.
+abbrev numbered : {A : Type 0} → Result A Refusal → ℕ → ℕ
+numbered (Err refusal) n = refusal.number
+numbered (Ok a) n = n
+
+pub same_refusal : {A : Type 0} {n m : ℕ} → ◌≡◌ {A = Result A Refusal} (Refused n) (Refused m) → n ≡ m
+same_refusal {A} {n} e = ap (λ (o : Result A Refusal). numbered o n) e

@@ -8,12 +8,13 @@ use borrow.Author.Tests.{eq-eqb, eqb-false, eqb-true, not-false}
 use Rattle.model.specs.Calls.{Acted, Done, act, act_on, back, finish, pop_start, push_start, push_pooled_start, step}
 use Rattle.model.specs.{History.{Ledger, NeverUnsound, Request, final, run}, Places.word_found}
 use Rattle.model.specs.declared.{Asked.Asked, Answer.Answer, Op.{Op, TheVariants.{Pop, Push, PushPooled, Step}}}
-use Rattle.model.specs.declared.{Call.Call, Record.Record, Outcome.TheVariants.{Moved, Refused}}
+use Rattle.model.specs.Outcomes.{Moved, Refused}
+use Rattle.model.specs.declared.{Call.Call, Record.Record}
 use Rattle.model.specs.Refusals.{among, fits, late, named_push, nothing_asked, pooled_push, pop_refusal, push_refusal}
 use Rattle.model.specs.Refusals.{push_pooled_refusal, start_refusal, step_refusal, step_sound}
 use Rattle.model.specs.Sound.{control_sound, record_sound}
 use Rattle.model.specs.Tables.{Queue, Tables, asking, is_pooled, record_at, started, task_at, unused}
-use Rattle.model.proofs.{Tests.Truth.{by_test, decide_eq, not_both}, Lists.Store.set_back}
+use Rattle.model.proofs.{Tests.Truth.{by_test, decide_eq, not_both, same_refusal}, Lists.Store.set_back}
 use Rattle.model.proofs.Bridge.Accepted.{Lies, lies, pop_accepted, push_accepted, push_pooled_accepted}
 use Rattle.model.proofs.{Bridge.Accepted.step-accepted, Ledger.{EveryOperation.act_good, Matched.Matched}}
 use Rattle.model.proofs.Unsound.{Safe.Safe, StepSafe.step_safe, StepSound.{own_sound, step-sound}}
@@ -80,7 +81,7 @@ module _ (n : ℕ) (q : Queue) (l : Ledger) (g : Matched n q l) (f : Safe q) (t 
   Puts a = After (back q t a)
 
   refused : (why : ℕ) → Not34 why → Puts (record { tables = G; task = task_at q t; outcome = Refused why })
-  refused why h = (λ e. h cc, subst (λ (x : List Record). Safe (record { tables = G; records = x })) (sym (set_back q.records t unused)) f)
+  refused why h = (λ e. h (same_refusal e), subst (λ (x : List Record). Safe (record { tables = G; records = x })) (sym (set_back q.records t unused)) f)
 
   moved : (a : Answer) → Moved a ≡ Refused 34 → ⊥
   moved a e = let w : ◌≡◌ {A = ℕ} 0 1 = cc in omega arith

@@ -21,7 +21,7 @@ returns c =
     let a = (start tested).args in
     let yes = rw (near tested) at (sym tested.is_slot.ensures ∙ slot.if-is_slot.true) in
     λ ls rs xs k.
-    rw (c.at11.ensures, cleared.clear_mark.ensures, tested.before.label_at-label.ensures, near tested)
+    rw (c.at11.ensures, cleared.clear_mark.ensures, tested.before.get_or-label.ensures, near tested)
     (cleared11 a.c a.r ls rs a.labels.now a.marks.now xs k yes)
 
 returns-2 : tie.Need-returns
@@ -35,12 +35,12 @@ pub at11_spec : {M : Type 1} → statement M
 at11_spec =
     tie.close
     (tie.spec
-    (λ _ _. tt)
-    (λ _ _. tt)
-    (λ _ _. tt)
-    (λ _ _. tt)
-    (λ _ _. tt)
+    (λ c κs. search rules)
+    (λ c κs. search rules)
+    (λ c κs. search rules)
+    (λ c κs. search rules)
+    (λ c κs. search rules)
     (λ c. search rules)
     returns
-    (λ _ _. tt)
+    (λ c κs. search rules)
     returns-2)

@@ -3,10 +3,11 @@ use mathlib.Core.{Path.{◌≡◌, refl, ap, sym, subst, ◌∙◌}, List.{List,
 use Prim.Native.Nat.{ℕ, ◌<◌, ◌≤◌, ◌/◌}
 use lib.{Dec.eqb, ListN.{length, get_or}}
 use borrow.Author.Tests.{eqb-true, eqb-false}
-use Rattle.model.specs.{declared.{Record.Record, Outcome.Outcome, Op.Op}, Calls.{act, back}}
+use Rattle.model.specs.Outcomes.{Outcome}
+use Rattle.model.specs.{declared.{Record.Record, Op.Op}, Calls.{act, back}}
 use Rattle.model.specs.Tables.{Tables, Queue, task_at, marked, with_mark}
 use Rattle.model.proofs.{Tests.Truth.split, Bridge.Marks.{marked-same, marked_other}}
-use Rattle.threads_model.specs.Instructions.{Hand, labels, marks, ends, Ticked, quiet, decided, written, told_at_end}
+use Rattle.threads_model.specs.Instructions.{Hand, ends, Ticked, quiet, decided, written, told_at_end}
 use Rattle.threads_model.specs.Crew.{Crew, with_hand, owed}
 use Rattle.threads.specs.Promises.{record_of, OwesLabel, OwesMark}
 use Rattle.threads.proofs.Follow.Good as own

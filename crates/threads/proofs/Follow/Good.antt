@@ -7,7 +7,8 @@ use lib.{Dec.{eqb, leb}, ListN.{length, get_or}, Seq.set-get_or}
 use borrow.Author.Tests.{eq-eqb, eqb-true, leb-true, lt-ltb}
 use Rattle.word.specs.Anchor.{anchor_of}
 use Rattle.model.specs.{declared.{Call.Call, Asked.Asked, Op.{Op, TheVariants.{Push, Step}}}, Sound.record_sound}
-use Rattle.model.specs.{declared.Outcome.TheVariants.Refused, History.Ledger, Sides.{links, near}}
+use Rattle.model.specs.Outcomes.{Refused}
+use Rattle.model.specs.{History.Ledger, Sides.{links, near}}
 use Rattle.model.specs.Tables.{Tables, Queue, is_pooled, at_place, task_at, record_at, marked, started, unused}
 use Rattle.model.specs.{Places.{end_seen, link_side, row, side_of}, Refusals.start_refusal, Calls.{Done, act, back}}
 use Rattle.model.specs.Refusals.{admission, alone, among, fits, first, is_busy, late, push_refusal, records_fit, rule}

@@ -4,7 +4,8 @@ use Prim.Native.Nat.{ℕ, ◌<◌}
 use native.Mathlib.Omega.{arith}
 use lib.{Dec.eqb, ListN.{length, get_or, set, length-set}, Seq.{get_or-set_same, get_or-set_other}}
 use borrow.Author.Tests.{eqb-true, eqb-false, eq-eqb}
-use Rattle.model.specs.{declared.{Record.Record, Outcome.{Outcome, TheVariants.Refused}, Op.Op}, Places.row, Lists.All}
+use Rattle.model.specs.Outcomes.{Outcome, Refused}
+use Rattle.model.specs.{declared.{Record.Record, Op.Op}, Places.row, Lists.All}
 use Rattle.model.specs.{Tables.{Tables, Queue, task_at, record_at, marked, unused}, History.Event}
 use Rattle.model.{specs.Calls.{Acted, Done, act, back}, proofs.{Tests.Truth.split, Invariant.Owners.held}}
 use Rattle.threads_model.specs.{Split.plan, Turns.{Turn, take_early, run_turns, final_turns}}

@@ -5,7 +5,8 @@ use native.Mathlib.Omega.{arith}
 use lib.{Dec.eqb, ListN.get_or}
 use borrow.Author.Tests.{eqb-true, ltb-true, lt-ltb}
 use Rattle.word.specs.Anchor.{anchor_of}
-use Rattle.model.specs.{declared.{Call.Call, Record.Record, Outcome.Outcome}, Sides.links, Sound.link_sound}
+use Rattle.model.specs.Outcomes.{Outcome}
+use Rattle.model.specs.{declared.{Call.Call, Record.Record}, Sides.links, Sound.link_sound}
 use Rattle.model.specs.{declared.Op.{Op, TheVariants.{Push, Pop, PushPooled, Step}}, Refusals.late}
 use Rattle.model.specs.Tables.{Tables, task_at, marked, with_anchor, started, asking}
 use Rattle.model.proofs.Tests.Truth.{either, by_test, not_both}

@@ -3,7 +3,8 @@ use mathlib.Core.{Path.{◌≡◌, refl, ap, sym, subst, ◌∙◌}, Bool.{Bool,
 use Prim.Native.Nat.{ℕ}
 use lib.{Dec.eqb, ListN.{get_or, set}, Seq.{get_or-set_other, set_comm}}
 use borrow.Author.Tests.{eqb-true}
-use Rattle.model.specs.declared.{Record.Record, Outcome.Outcome, Op.{Op, TheVariants.{Push, Pop, PushPooled, Step}}}
+use Rattle.model.specs.Outcomes.{Outcome}
+use Rattle.model.specs.declared.{Record.Record, Op.{Op, TheVariants.{Push, Pop, PushPooled, Step}}}
 use Rattle.model.specs.{Tables.{Tables, marked, with_mark, with_marks}, Sides.links}
 use Rattle.threads_model.specs.{declared.{PlannedTouch.PlannedTouch, Start.Start}, Split.{plan, perform, settle}}
 use Rattle.threads_model.specs.Starts.{Begins, touches, answers, names, pops, puts, plan_start, settle_start}

@@ -3,7 +3,8 @@ use mathlib.Core.{Path.{◌≡◌, refl}, Bool.{true, false, not, cond}, List.{[
 use Prim.Native.Nat.{ℕ}
 use lib.Dec.{eqb}
 use Rattle.model.specs.{declared.{Call.Call, Record.Record, Op.{Op, TheVariants.{Push, Pop, PushPooled}}}, Sound.from1}
-use Rattle.model.specs.{declared.{Answer.TheVariants.Running, Outcome.TheVariants.{Refused, Moved}}, Refusals.late}
+use Rattle.model.specs.Outcomes.{Moved, Refused}
+use Rattle.model.specs.{declared.Answer.TheVariants.Running, Refusals.late}
 use Rattle.model.specs.Tables.{Tables, marked, with_mark, with_marks, with_call, started, asking}
 use Rattle.model.proofs.Tests.Truth.{split}
 use Rattle.threads_model.specs.Starts.{names, pops, puts, own_refusal, plan_start, settle_start}

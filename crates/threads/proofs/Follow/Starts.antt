@@ -5,7 +5,8 @@ use native.Mathlib.Omega.{arith}
 use lib.{Dec.eqb, ListN.length-set, Seq.get_or-set_other}
 use borrow.Author.Tests.{eqb-true, eq-eqb, not-false}
 use Rattle.model.specs.declared.{Call.Call, Record.Record, Op.{Op, TheVariants.{Push, Pop, PushPooled}}, Asked.Asked}
-use Rattle.model.specs.{declared.{Outcome.TheVariants.{Refused, Moved}, Answer.TheVariants.Running}, Tables.with_taken}
+use Rattle.model.specs.Outcomes.{Moved, Refused}
+use Rattle.model.specs.{declared.Answer.TheVariants.Running, Tables.with_taken}
 use Rattle.model.specs.Tables.{Tables, Queue, task_at, record_at, marked, with_mark, with_marks, with_call, started, asking}
 use Rattle.model.specs.{Sound.from1, Refusals.{among, late, named_push, pooled_push, nothing_asked, push_refusal}}
 use Rattle.model.specs.Calls.{Acted, act, act_on, back, decide, push_start, pop_start, push_pooled_start}

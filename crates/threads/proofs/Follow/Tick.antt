@@ -4,7 +4,8 @@ use Prim.Native.Nat.{ℕ, ◌<◌, ◌≤◌, ◌/◌}
 use native.Mathlib.Omega.{arith}
 use lib.{Dec.eqb, ListN.{length, get_or, set, length-set}, Seq.{get_or-set_same, get_or-set_other}}
 use borrow.Author.Tests.{eqb-true, eqb-false}
-use Rattle.model.specs.declared.{Record.Record, Outcome.Outcome, Op.TheVariants.{Push, Pop, PushPooled, Step}}
+use Rattle.model.specs.Outcomes.{Outcome}
+use Rattle.model.specs.declared.{Record.Record, Op.TheVariants.{Push, Pop, PushPooled, Step}}
 use Rattle.model.specs.Tables.{Tables, Queue, task_at, marked, with_mark, with_marks, started}
 use Rattle.model.proofs.{Tests.Truth.{split, not_both}, Bridge.Marks.{marked-same, marked_other}}
 use Rattle.model.proofs.Unsound.StartSafe.{Room}

@@ -2,7 +2,8 @@
 use mathlib.Core.{Path.{◌≡◌, refl, ap, sym, subst, ◌∙◌}, Bool.{Bool, false, cond}, List.{List, [], ◌∷◌, ◌++◌}}
 use Prim.Native.Nat.{ℕ}
 use lib.Dec.{eqb}
-use Rattle.model.specs.{declared.{Outcome.{Outcome, TheVariants.Refused}, Op.Op}, Tables.Queue, History.Event}
+use Rattle.model.specs.Outcomes.{Outcome, Refused}
+use Rattle.model.specs.{declared.Op.Op, Tables.Queue, History.Event}
 use Rattle.model.{specs.Lists.All, proofs.Tests.Truth.split}
 use Rattle.threads_model.specs.{Turns.{Turn, take_early, run_turns, final_turns}, Crew.{as_turns, outcomes_of}}
 

@@ -5,7 +5,8 @@ use Prim.Native.Nat.{ℕ, suc, ◌≤◌, ◌/◌, ◌%◌}
 use native.Mathlib.Omega.{arith}
 use lib.{Dec.{eqb, leb, ltb}, ListN.{get_or, length, length-set}}
 use borrow.Author.Tests.{eqb-true, eqb-false, leb-true, not-false, not-true}
-use Rattle.model.specs.{declared.{Answer.TheVariants.Running, Outcome.TheVariants.Moved}, Refusals.start_rules}
+use Rattle.model.specs.Outcomes.{Moved}
+use Rattle.model.specs.{declared.Answer.TheVariants.Running, Refusals.start_rules}
 use Rattle.model.specs.{declared.Op.{Op, TheVariants.{Push, Pop, PushPooled, Step}}, Calls.{Acted, Done, act, back}}
 use Rattle.model.specs.Tables.{Tables, Queue, is_pooled, marked, put_bit, record_at, task_at, with_taken, with_call, started}
 use Rattle.model.specs.{Sound.{from1, control_sound, record_sound, rows_fit}, History.{Event, Ledger, ledger_from, note}}

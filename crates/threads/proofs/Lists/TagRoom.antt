@@ -7,7 +7,8 @@ use lib.Dec.{eqb}
 use borrow.Author.Tests.{eqb-true, eq-eqb, ne_eqb, ltb-false}
 use Rattle.word.specs.Anchor.{anchor_of}
 use Rattle.model.specs.declared.{Call.Call, Record.Record, Op.{Op, TheVariants.{Push, Pop, PushPooled, Step}}}
-use Rattle.model.specs.{declared.Outcome.TheVariants.Refused, Sound.control_sound, History.Ledger}
+use Rattle.model.specs.Outcomes.{Refused}
+use Rattle.model.specs.{Sound.control_sound, History.Ledger}
 use Rattle.model.specs.{Tables.{Tables, Queue, record_at, started, task_at, unused, with_call}, Places.{move, word_found}}
 use Rattle.model.specs.Refusals.{among, late, pop_refusal, push_refusal, push_pooled_refusal, step_refusal}
 use Rattle.model.specs.Calls.{Acted, Done, act, act_on, back, finish, pop_start, push_start, push_pooled_start, step}

@@ -4,7 +4,8 @@ use Prim.Native.Nat.{ℕ}
 use lib.Dec.{eqb}
 use Rattle.word.specs.Anchor.{anchor_of}
 use Rattle.model.specs.declared.{Control.Control, Call.Call, Record.Record, Entry.Entry, Answer.Answer}
-use Rattle.model.specs.{declared.Outcome.TheVariants.Moved, Tables.{Tables, counting}, Sound.anchor_sound}
+use Rattle.model.specs.Outcomes.{Moved}
+use Rattle.model.specs.{Tables.{Tables, counting}, Sound.anchor_sound}
 use Rattle.model.specs.{Places.{Touch, Move, apply}, Route.{leave, route, onward, answer}}
 use Rattle.model.specs.{Refusals.{leaves_sound, has_room}, Calls.{Acted, decide, entry_of, finish}}
 use Rattle.model.proofs.Tests.Truth.{split, either}

@@ -3,9 +3,9 @@ use Rattle.std.proofs.Common.{arith}
 use Rattle.trace_replay.{specs.Pieces.next_page, proofs.Bounds.fed_within}
 use Rattle.trace_pages.proofs.take_page.Goals as goal
 
-pub flush-written-requires : goal.flush-written-requires
-flush-written-requires g c = fed_within _ _ _ c.feed-q.ensures (omega arith)
+pub flush-requires : goal.flush-requires
+flush-requires g c = fed_within _ _ _ c.feed.ensures (omega arith)
 
 pub returns : goal.returns
 unfolding next_page
-returns g c = c.feed-q.ensures
+returns g c = c.feed.ensures

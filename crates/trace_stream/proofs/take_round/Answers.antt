@@ -1,25 +1,26 @@
 -- What was left stands before what was read, and all of it is taken, or the end of the input.
-use Rattle.std.proofs.Common.{◌≡◌, ◌-◌, ◌≤◌, length, sym, ◌∙◌, arith}
-use lib.Seq.{slice, length-slice}
-use borrow.Author.Tests.{not-false}
-use Rattle.trace_stream.proofs.Reading.{end_round, piece_round}
+use Rattle.std.proofs.Common.{◌-◌, ◌<◌, ◌≤◌, length, sym, ◌∙◌, arith}
+use lib.Seq.{length-slice}
+use Rattle.trace_stream.proofs.Reading.{end_round, piece_ends, piece_goes, on_ok}
 use Rattle.trace_stream.proofs.take_round.Goals as goal
 
-pub returns-then-full-left-clause-next_after : goal.returns-then-full-left-clause-next_after
-returns-then-full-left-clause-next_after g c =
-    let read = c.refill-more in
-    let left : read.result.left ≡ c.args.have - c.args.s.at = read.ensures.left_value.0 in
-    let within : read.result.have ≤ length read.new.input = omega arith in
-    let all : read.result.have ≡ c.args.have - c.args.s.at = c.if-full-left.true ∙ left in
-    let as_many : length (slice c.args.s.at c.args.have c.args.input.now) ≡ c.args.have - c.args.s.at = length-slice c.args.s.at c.args.have c.args.input.now c.requires.0 in
-    λ w. end_round _ _ _ _ _ _ all within as_many (c.end-t.ensures _ _ _ _ _ _)
+pub returns-then-full-left-clause-run_after : goal.returns-then-full-left-clause-run_after
+returns-then-full-left-clause-run_after g c =
+    let as_many = length-slice c.args.s.now.at c.args.have c.args.input.now c.requires.0 in
+    end_round _ _ _ _ (c.saturating_sub-left.ensures ∙ sym as_many) (c.end.ensures _ _ _ _ _ _)
 
-pub returns-clause-next_after : goal.returns-clause-next_after
-returns-clause-next_after g c =
-    let read = c.refill-more in
-    let left : read.result.left ≡ c.args.have - c.args.s.at = read.ensures.left_value.0 in
-    let order : c.args.have - c.args.s.at ≤ read.result.have = omega arith in
-    let within : read.result.have ≤ length read.new.input = omega arith in
-    λ w.
-    piece_round _ _ _ _ _ _ order within (λ k. c.if-full-left.false (k ∙ sym left)) read.ensures.input_after
-    (c.take_piece-t.ensures.next_after (not-false _ w))
+pub returns-then-s-clause-run_after : goal.returns-then-s-clause-run_after
+returns-then-s-clause-run_after g c =
+    let full = c.in_ok-full.ensures.full in
+    let order : c.args.have - c.args.s.now.at < c.in_ok-full.full = omega (arith, full) in
+    let within : c.in_ok-full.full ≤ length c.refill.new.input = omega (arith, full) in
+    let taken = on_ok _ c.in_ok-map_err-2.ensures.variant c.take_piece.ensures.next_after in
+    piece_ends _ _ _ _ _ c.requires.0 c.refill.ensures.input_after order within _ _ taken c.if-s.true
+
+pub returns-clause-run_after : goal.returns-clause-run_after
+returns-clause-run_after g c =
+    let full = c.in_ok-full.ensures.full in
+    let order : c.args.have - c.args.s.now.at < c.in_ok-full.full = omega (arith, full) in
+    let within : c.in_ok-full.full ≤ length c.refill.new.input = omega (arith, full) in
+    let taken = on_ok _ c.in_ok-map_err-2.ensures.variant c.take_piece.ensures.next_after in
+    piece_goes _ _ _ _ _ c.requires.0 c.refill.ensures.input_after order within _ _ taken c.if-s.false

@@ -13,5 +13,5 @@ roomy m n e = omega (arith, length-replicate {A = ℕ} n 0, leb-true m n e)
 pub slice_bounds-rounds-end-2 : goal.slice_bounds-rounds-end-2
 slice_bounds-rounds-end-2 g c = sym (length-replicate {A = ℕ} 589824 0)
 
-pub rounds-requires-clause-field_room_in_bounds : goal.rounds-requires-clause-field_room_in_bounds
-rounds-requires-clause-field_room_in_bounds g c = roomy field_room 589824 refl
+pub rounds-done-requires-clause-field_room_in_bounds : goal.rounds-done-requires-clause-field_room_in_bounds
+rounds-done-requires-clause-field_room_in_bounds g c = roomy field_room 589824 refl

@@ -34,24 +34,24 @@ returns-2 c =
     let asked = test.before.before in
     let accepted = eq-eqb asked.start_refusal-why.result 0 test.if-why-ne0.false in (
       rw (c.decided-2.ensures, test.before.new_call-push.ensures, ← found asked, accepted),
-      rw (marked.set_mark.ensures, stored.put_label.ensures, ← found asked, accepted),
+      rw (marked.set_mark.ensures, stored.set.ensures, ← found asked, accepted),
     )
 
 pub push_start_spec : {M : Type 1} → statement M
 push_start_spec =
     tie.close
     (tie.spec
-    (λ _ _. tt)
-    (λ _ _. tt)
-    (λ _ _. tt)
-    (λ _ _. tt)
-    (λ _ _. tt)
+    (λ c κs. search rules)
+    (λ c κs. search rules)
+    (λ c κs. search rules)
+    (λ c κs. search rules)
+    (λ c κs. search rules)
     (λ c. search rules)
     (λ c. search rules)
     returns
-    (λ _ _. tt)
-    (λ _ _. tt)
-    (λ _ _. tt)
+    (λ c κs. search rules)
+    (λ c κs. search rules)
+    (λ c κs. search rules)
     (λ c. search rules)
     (λ c. search rules)
     returns-2)

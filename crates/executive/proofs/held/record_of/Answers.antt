@@ -4,4 +4,4 @@ use Rattle.executive.proofs.held.record_of.Goals as goal
 
 pub returns : goal.returns
 unfolding record_of
-returns c = λ i. record { call = c.call_of-call.ensures i; retries = c.retries_of-retries.ensures i }
+returns c = λ i. record { call = c.call_of.ensures i; retries = c.retries_of.ensures i }

@@ -1,7 +1,8 @@
--- The records are those of the two rows.
-use Rattle.std.proofs.Common.{[], ◌∷◌, ◌∙◌, rules}
-use Rattle.executive.proofs.Pair.{pair_records}
+-- Each record is that of its row.
+use Rattle.std.proofs.Common.{[], sym, rules}
+use Rattle.model.specs.Tables.{unused}
+use Rattle.executive.proofs.Pair.{records_at}
 use Rattle.executive.proofs.held.records_of.Goals as goal
 
 pub returns : goal.returns
-returns c = (λ i. c.record_of-a.ensures i ∷ c.record_of-b.ensures i ∷ []) ∙ pair_records _ _ _ (search rules)
+returns c = sym (records_at _ _ (search rules) (λ i h. sym (c.map.ensures.items.at i [] unused (search rules)).2.met))

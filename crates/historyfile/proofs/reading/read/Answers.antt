@@ -39,7 +39,7 @@ returns-clause-order_after c =
     let h : length a.text.now ≤ at.i = omega arith in
     let all : at.i ≡ length a.text.now = omega arith in
     text_ends (length at.calls) (length at.order) a.text.now at.i at.s at.calls at.order h word.result word.new.calls word.new.order _ _
-    c.end_line-place.ensures (ap (λ (i : ℕ). take (i - at.s.from) (drop at.s.from a.text.now)) (sym all)) word.ensures.order_after
+    c.end_line.ensures (ap (λ (i : ℕ). take (i - at.s.from) (drop at.s.from a.text.now)) (sym all)) word.ensures.order_after
     ∙ at.invariant.2
 
 pub returns-clause-written : goal.returns-clause-written

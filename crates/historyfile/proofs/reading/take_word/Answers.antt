@@ -4,13 +4,16 @@ use Rattle.historyfile.specs.{declared.reading.Turn.Turn, Reading.kept, Buffer.{
 use Rattle.historyfile.proofs.Held.{word_none, word_some}
 use Rattle.historyfile.proofs.reading.take_word.Goals as goal
 
-pub returns-then-word-place-clause-order_after : goal.returns-then-word-place-clause-order_after
-returns-then-word-place-clause-order_after c = word_none (length c.args.calls.now) (length c.args.order.now) c.args.s c.args.calls.now c.args.order.now c.requires c.args.word.now c.if-word-place.true
+pub returns-then-is_empty-is_some-clause-order_after : goal.returns-then-is_empty-is_some-clause-order_after
+returns-then-is_empty-is_some-clause-order_after c =
+    let a = c.args in
+    word_none (length a.calls.now) (length a.order.now) a.s a.calls.now a.order.now c.requires a.word.now
+    (rw (← c.is_empty.ensures, ← c.is_some.ensures) c.if-is_empty-is_some.true)
 
 pub returns-clause-order_after : goal.returns-clause-order_after
 returns-clause-order_after c =
     let a = c.args in
     let m = length a.calls.now in
     let n = length a.order.now in
-    word_some m n a.s a.calls.now a.order.now c.requires a.word.now _ c.if-word-place.false
+    word_some m n a.s a.calls.now a.order.now c.requires a.word.now _ (rw (← c.is_empty.ensures, ← c.is_some.ensures) c.if-is_empty-is_some.false)
     (c.keep_turn.ensures.order_after ∙ ap (λ (t : Turn). held m n (kept t (reading a.s a.calls.now a.order.now))) c.behind_word-t.ensures)

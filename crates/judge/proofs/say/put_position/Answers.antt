@@ -1,14 +1,8 @@
 -- Position 0, or another.
 use Rattle.std.proofs.Common.{rules}
-use borrow.Author.Tests.{eq-eqb, ne_eqb}
-use Rattle.judge.specs.Saying.{position}
+use borrow.Author.Tests.{eq-eqb}
 use Rattle.lines.proofs.Puts.{put-fits}
 use Rattle.judge.proofs.say.put_position.Goals as goal
 
 pub returns-then-n-eq0-clause-put : goal.returns-then-n-eq0-clause-put
-unfolding position
 returns-then-n-eq0-clause-put c = rw (eq-eqb _ 0 c.if-n-eq0.true) (put-fits _ c.write_text.ensures.put (search rules))
-
-pub returns-clause-put : goal.returns-clause-put
-unfolding position
-returns-clause-put c = rw (ne_eqb _ 0 c.if-n-eq0.false) c.put_counted.ensures.put

@@ -3,7 +3,8 @@ use mathlib.Core.{Path.{◌≡◌, refl, ap, ◌∙◌, sym}, Bool.{Bool, true, 
 use Prim.Native.Nat.{ℕ}
 use lib.{Dec.{eqb, leb, ltb}, ListN.get_or}
 use borrow.Author.Tests.{eqb-true, not-false}
-use Rattle.model.specs.declared.{Control.Control, Call.Call, Record.Record, Outcome.TheVariants.{Refused, Moved}}
+use Rattle.model.specs.Outcomes.{Moved, Refused}
+use Rattle.model.specs.declared.{Control.Control, Call.Call, Record.Record}
 use Rattle.model.specs.{Tables.{at_place, Tables, is_pooled, idle, with_call}, Places.{set_next, set_head, Move, move}}
 use Rattle.model.specs.{Sound.{from1, link_sound, control_sound, record_sound, rows_fit}, Sides.opposite, Lists.every}
 use Rattle.model.specs.Places.{side_of, row, word_found, Touch, nothing, set_anchor, set_link, clear_mark, take_slot}

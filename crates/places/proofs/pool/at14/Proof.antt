@@ -13,7 +13,7 @@ returns c =
     let decided = made.before.before in
     let a = decided.before.before.before.args in
     λ ls rs xs k.
-    rw (marked.set_mark.ensures, labelled.put_label.ensures, read.top-top.ensures)
+    rw (marked.set_mark.ensures, labelled.set.ensures, read.top-top.ensures)
     (rw (sym made.before.made.ensures ∙ made.if-made.true)
     at (step14 a.c a.r ls rs a.labels.now a.marks.now xs k decided.at14-m.result decided.at14-m.ensures))
 
@@ -29,11 +29,11 @@ pub at14_spec : {M : Type 1} → statement M
 at14_spec =
     tie.close
     (tie.spec
-    (λ _ _. tt)
-    (λ _ _. tt)
-    (λ _ _. tt)
-    (λ _ _. tt)
-    (λ _ _. tt)
+    (λ c κs. search rules)
+    (λ c κs. search rules)
+    (λ c κs. search rules)
+    (λ c κs. search rules)
+    (λ c κs. search rules)
     (λ c. search rules)
     (λ c. search rules)
     returns

@@ -11,9 +11,9 @@ returns c =
     let u = p.before.before in
     let a = u.before.before.args in
     λ ls rs ns ms k.
-    rw (c.at16.ensures, p.put_word.ensures, u.top-top.ensures) (step16 a.c a.r ls rs ns ms a.nexts.now k)
+    rw (c.at16.ensures, p.set.ensures, u.top-top.ensures) (step16 a.c a.r ls rs ns ms a.nexts.now k)
 
 pub at16_spec : {M : Type 1} → statement M
 at16_spec =
     tie.close
-    (tie.spec (λ _ _. tt) (λ _ _. tt) (λ _ _. tt) (λ c. search rules) returns)
+    (tie.spec (λ c κs. search rules) (λ c κs. search rules) (λ c κs. search rules) (λ c. search rules) returns)

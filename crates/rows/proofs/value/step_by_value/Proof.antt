@@ -2,7 +2,8 @@
 use mathlib.Core.{Path.{◌≡◌, ap, ◌∙◌}, List.List}
 use Prim.Native.Nat.{ℕ}
 use borrow.Author.Rules.{rules}
-use Rattle.model.specs.{declared.{Control.Control, Call.Call, Record.Record, Outcome.Outcome}, Tables.tables_of}
+use Rattle.model.specs.Outcomes.{Outcome}
+use Rattle.model.specs.{declared.{Control.Control, Call.Call, Record.Record}, Tables.tables_of}
 use Rattle.model.specs.Calls.{Acted}
 use Rattle.engine.specs.StepAdmitted.{step_admitted}
 use Rattle.layout.specs.Rows.{control_of, call_of, record_of}

@@ -8,4 +8,4 @@ pub returns-clause-by_index : goal.returns-clause-by_index
 unfolding answered written
 returns-clause-by_index c =
     let w = put-fits _ c.write_line-to.ensures.put (omega arith) in
-    λ rows rows' ls rs bs ms ns ls' rs' bs' ms' ns' eu. rw (w.stop, w.stored, c.wrapping_add_u64-event.ensures.value, eu)
+    λ rows rows' ls rs bs ms ns ls' rs' bs' ms' ns' eu. rw (w.stop, w.stored, eu)

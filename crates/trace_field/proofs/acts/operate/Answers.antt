@@ -9,6 +9,6 @@ pub returns-clause-next_after : goal.returns-clause-next_after
 returns-clause-next_after c =
     let made = c.operate-outcome in
     let uppers = zeroed-once (writes_row c.args.op made.result) (uppers_of c.args.rows.now) _ _ made.ensures.records_after in
-    operate_page _ _ _ _ _ _ _ _ _ _ _ _ _ _ _ _ _ _ _ _ _ _ c.control_row-words.ensures c.control_of-control.ensures
+    operate_page _ _ _ _ _ _ _ _ _ _ _ _ _ _ _ _ _ _ _ _ _ _ c.control_row-words.ensures c.control_of.ensures
     made.ensures.fact c.trim.ensures.rows_unchanged
     (c.answer.ensures.by_index _ _ _ _ _ _ _ _ _ _ _ _ (c.trim.ensures.rows_after ∙ uppers))
