@@ -35,7 +35,7 @@ fn copy_many<T: Copy>(from: &[T], to: &mut [T])
 }
 
 /// Copies by way of entries lent for it: these lie apart from both, so that a copy is one memmove.
-// Tried without them: a loop for each way in which both may lie, 7,886 bytes of code, where bench/facts.txt has 5,232.
+// Tried without them, a loop for each way in which both may lie: 7,886 bytes of code in place of the 4,341 of bench/facts.txt.
 fn copy<T: Copy>(from: &[T], to: &mut [T], held: &mut [T])
     requires { length to.old ≡ length from.now }
     ensures { to.new ≡ from.now }
