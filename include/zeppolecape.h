@@ -18,7 +18,7 @@
  *     cc -Iinclude main.c target/lib/libzeppolecape.a
  *
  * The library is for x86-64. It calls nothing but memset, from the openings, zc_serve and the order
- * sheets, memcpy, from zc_find and zc_next_schedule, and memmove, from zc_save and zc_return.
+ * sheets, memcpy, from zc_find, and memmove, from zc_save and zc_return.
  *
  * In short:
  *
