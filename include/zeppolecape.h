@@ -18,7 +18,7 @@
  *     cc -Iinclude main.c target/lib/libzeppolecape.a
  *
  * The library is for x86-64. It calls nothing but memset, from the openings, zc_serve and the order
- * sheets, memcpy, from zc_find and zc_next_schedule, and memmove, from zc_save and zc_return.
+ * sheets, memcpy, from zc_find, and memmove, from zc_save and zc_return.
  *
  * In short:
  *
@@ -75,11 +75,11 @@
  *   zc_report         360       239       374     12652
  *   table bytes         -       240       816     30120
  *   stack bytes of the others: zc_waiting 96, zc_find 504, zc_sheet 1432, zc_sheet_words 424,
- *   zc_join 240, zc_save 184, zc_return 152, zc_next_schedule 19152, zc_serve 320,
+ *   zc_join 240, zc_save 184, zc_return 152, zc_next_schedule 18976, zc_serve 320,
  *   zc_audit 200, zc_plan 112, zc_settle_plan 192, zc_settle_unasked 192, zc_plan_start 8,
  *   zc_settle_start 48, zc_start_loaded 16
  *   code bytes: audit 797, capi 10591, capi_record 5157, capi_run 7571, find 3379, join 4028,
- *   schedule 7802, serve 8713, sheet 3018, shelf 4341, touch 10387, touch_call 9083,
+ *   schedule 7734, serve 8713, sheet 3018, shelf 4341, touch 10387, touch_call 9083,
  *   waiting 884
  * As to the machine: x86-64, System V calling convention. The code uses the red zone (128 bytes
  * below the stack pointer) and SSE registers, no AVX: an interrupt handler that makes a call saves

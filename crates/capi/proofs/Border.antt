@@ -2,17 +2,24 @@
 use mathlib.Core.{Path.{◌≡◌, refl, sym, ap, subst, ◌∙◌}, Bool.{Bool, true, false, cond}, List.List}
 use Prim.Native.Nat.{ℕ, ◌≤◌, min}
 use native.Mathlib.Omega.{arith}
-use lib.{Dec.{eqb, leb}, ListN.{length}}
-use Rattle.model.specs.Outcomes.{Opened, Refused, Reported}
-use Rattle.model.specs.declared.{Control.Control}
+use lib.{Dec.{eqb, leb}, ListN.{length, set}}
+use Rattle.model.specs.Outcomes.{Opened, Outcome, Refused, Reported}
+use Rattle.model.specs.declared.{Control.Control, Reply.Reply, Op.Op}
 use Rattle.model.specs.{Tables.{Tables, Queue, tables_of, unused}, Sound.rows_fit, Refusals.open_refusal, Lists.zeroed}
 use Rattle.model.{specs.Report.{report, retry_counts, tell}, proofs.Tests.Truth.split}
-use Rattle.model.specs.Calls.{OpenDone, opened as opened_queue, open_as, opening_code}
+use Rattle.model.specs.Calls.{Done, OpenDone, opened as opened_queue, open_as, act, opening_code, reply_of}
 use Rattle.calls.specs.{declared.opening.OpenedTables.OpenedTables, Opening.{many_records, OpenedParts, open_tables}}
 use Rattle.calls.{specs.Telling.countable, proofs.{Openings.{clear-fits, open_parts, whole}, Counts.countable-fits}}
 use Rattle.calls.proofs.Tells.{all_looked_at, report_parts}
 use Rattle.layout.{specs.Rows.{control_of, records_of, uppers_of, queue_in}, proofs.Rows.{length_records, all-zeroed}}
-use Rattle.capi.specs.Replies.{uppers_at, Coded, coded, busy_in, counts_in, report_reply_of}
+use Rattle.capi.specs.Replies.{uppers_at, Coded, coded, Replied, replied, busy_in, counts_in, report_reply_of}
+
+-- A start or step, its outcome in numbers. zeroes: after which outcomes the upper half of the label's word is zero.
+pub answered : (zeroes : Outcome → Bool) (op : Op) (q q' : Queue) (task : ℕ) (us us' : List ℕ) (o : Outcome) (r : Reply)
+    → ◌≡◌ {A = Done} (record { queue = q'; outcome = o }) (act q task op)
+    → us' ≡ cond (zeroes o) (set us task 0) us → r ≡ reply_of o
+    → ◌≡◌ {A = Replied} (record { queue = q'; uppers = us'; reply = r }) (replied zeroes task us (act q task op))
+answered zeroes op q q' task us us' o r e eu er = rw (er, eu) (ap (replied zeroes task us) e)
 
 -- A named opening neither looks at the next rows nor writes them.
 abbrev nexts : List ℕ → OpenedParts → OpenedParts

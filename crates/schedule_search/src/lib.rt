@@ -107,10 +107,13 @@ pub fn search(
         let ws = given.old in
         sought 48 ws (seeking ws len 48 false q) q) }
 {
+    // Each row is stored in its place: both in an array of their own are copied into it by a call of memcpy.
     let mut rows = Rows {
         control,
-        pair: [a, b],
+        pair: [[0; layout::RECORD_WORDS]; 2],
     };
+    rows.pair[0] = a;
+    rows.pair[1] = b;
     seek(
         false, &mut rows, 48, false, len, given, lefts, rights, labels, marks, next,
     )

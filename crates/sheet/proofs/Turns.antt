@@ -149,6 +149,14 @@ join-marked r k via i row h = ap (λ b. cond b (r.join via row) row) h
 pub join_unmarked : {A : Type 0} (r : Row A) (k : ℕ) (via : A) (i : ℕ) (row : A) → r.has row k ≡ false → join_via r k via i row ≡ row
 join_unmarked r k via i row h = ap (λ b. cond b (r.join via row) row) h
 
+-- A pair of places counted from 0.
+pub crossed-at : {A : Type 0} (r : Row A) (m : List A) (low high : List ℕ) (a b : ℕ)
+    → crossed r m low high (a + 1) (b + 1) ≡ r.has (get_or m a r.bare) b && leb (get_or low b 0) (get_or high a 0)
+crossed-at r m low high a b = rw (back a, back b)
+  where
+    back : (n : ℕ) → (n + 1) - 1 ≡ n
+    back n = omega arith
+
 -- Rows as they are read, whatever stands for one that isn't there.
 module _ {A : Type 0} (r : Row A) (m : List A) (i : ℕ) (h : i < length m) where
   pub rule-set : (w b a : ℕ) (x : A) → b ≡ before w → a ≡ after w → b - 1 ≡ i → set m (b - 1) (r.put (get_or m (b - 1) x) (a - 1)) ≡ rule_marked r w m
@@ -167,14 +175,12 @@ module _ {A : Type 0} (r : Row A) (m : List A) (i : ℕ) (h : i < length m) wher
   row-kept k via x e =
       sym (ap (set m i) (join_unmarked r k via i _ (ap (λ (v : A). r.has v k) (get_or_default m i r.bare x h) ∙ e)) ∙ set-get_or m i r.bare)
 
-  -- A pair of places, the first of them i, counted from 0.
-  pub crossed-at : (low high : List ℕ) (b : ℕ) (x : A) → x ≡ get_or m i x
+  -- The same of a row that is there.
+  pub crossed-here : (low high : List ℕ) (b : ℕ) (x : A) → x ≡ get_or m i x
       → crossed r m low high (i + 1) (b + 1) ≡ r.has x b && leb (get_or low b 0) (get_or high i 0)
-  crossed-at low high b x e =
-      rw (back i, back b) (ap (λ (v : A). r.has v b && leb (get_or low b 0) (get_or high i 0)) (get_or_default m i r.bare x h ∙ sym e))
-    where
-      back : (n : ℕ) → (n + 1) - 1 ≡ n
-      back n = omega arith
+  crossed-here low high b x e =
+      crossed-at r m low high i b
+      ∙ ap (λ (v : A). r.has v b && leb (get_or low b 0) (get_or high i 0)) (get_or_default m i r.bare x h ∙ sym e)
 
 -- The position after k steps of a walk.
 abbrev pub position : Bool → ℕ → ℕ

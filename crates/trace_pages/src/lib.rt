@@ -3,7 +3,7 @@
 //! No contract says that the system writes what it is lent. Where it cannot be written, the error is handed on.
 #![tactic(auto)]
 
-ghost use Rattle.std.specs.Prelude.{ℕ, ◌≤◌, length, IfOk, OnOk};
+ghost use Rattle.std.specs.Prelude.{ℕ, ◌≤◌, length, OnOk};
 ghost use mathlib.Core.{Path.◌≡◌, List.List};
 ghost use Rattle.trace_field.specs.Page.{page_of};
 ghost use Rattle.trace_replay.specs.{Feed.{Begins, first_page}, Pieces.{from_start, next_page, pages_of, last_page}};
@@ -20,14 +20,13 @@ fn flush<W: Write>(writer: &mut W, out: &[u8], to: usize) -> io::Result<()>
     writer.write_all(&out[..to])
 }
 
-/// The trace's first line.
-pub fn begin<W: Write>(writer: &mut W, out: &mut [u8]) -> io::Result<RunState>
-    ensures begins { IfOk result (λ s. Begins out.old out.new s) }
+/// The trace's first line, and whether it was written out.
+pub fn begin<W: Write>(writer: &mut W, out: &mut [u8]) -> (RunState, io::Result<()>)
+    ensures begins { Begins out.old out.new result.0 }
     ensures out_after { out.new ≡ (first_page out.old).out }
 {
     let s = trace_replay::begin(out);
-    flush(writer, out, s.to)?;
-    Ok(s)
+    (s, flush(writer, out, s.to))
 }
 
 // One call of `feed`, and what its page holds written out.

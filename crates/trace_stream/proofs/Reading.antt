@@ -6,14 +6,14 @@ use Rattle.std.proofs.Common.{Result, Ok, Err, OnOk}
 use Rattle.std.specs.Result.{is_ok}
 use Rattle.model.proofs.Tests.Truth.{not_both}
 use lib.{Dec.leb, ListN.{length, take, drop, take-append-drop}, Seq.{slice, take-take, length-slice}}
-use borrow.Author.Tests.{lt-leb}
+use borrow.Author.Tests.{le-leb, lt-leb}
 use Rattle.runfile.specs.Field.{longest_field}
 use Rattle.trace_field.specs.{Page.{Page, page_of, field_room}, declared.RunState.RunState}
-use Rattle.trace_field.proofs.Pages.{cond-false}
+use Rattle.trace_field.proofs.Pages.{cond-true, cond-false}
 use Rattle.trace_replay.specs.{Trace.fresh, Feed.{Zeros, Begins}}
 use Rattle.trace_replay.specs.Pieces.{from_start, pages_of, begun, after_pieces, last_page, round_page, Gone}
 use Rattle.trace_replay.proofs.{PageLoop.{Stands, round_stands, round_gone}, Remainder.stands-leaves}
-use Rattle.trace_stream.specs.Round.{Goes, Ended, ended}
+use Rattle.trace_stream.specs.Round.{Goes, Ended}
 
 never : {P : Type 0} → ◌≡◌ {A = Bool} true false → P
 never z = absurd (not_both refl z)
@@ -51,15 +51,25 @@ module _ (old input : List ℕ) (at have full : ℕ) (fits : have ≤ length old
       taken ∙ ap (λ (l : List ℕ). (pages_of l (from_start p)).page) (sym (all_read b input full (rw as_many front) (omega (arith, m))))
       ∙ sym (cond-false (leb (length c) 0) _ _ (lt-leb _ _ some))
 
-  pub piece_ends : x.run.over ≡ true → Ended b p x
-  piece_ends over = ended (slice (length b) full input) page (λ some. over)
+  pub piece_ends : x.run.over ≡ true → Ended b input p x full
+  piece_ends over = let m = more in record { left = omega (arith, m); within = within; page = page; over = λ some. over }
 
   pub piece_goes : x.run.over ≡ false → Goes b input p x full
   piece_goes on = record { more = more; within = within; page = page; on = on }
 
-pub end_round : (b : List ℕ) (left : ℕ) (p x : Page) → left ≡ length b → x ≡ last_page left p → Ended b p x
+-- The end of the input: nothing was read behind the bytes that were left.
+pub end_round : (b input : List ℕ) (left full : ℕ) (p x : Page) → left ≡ length b → full ≡ left → full ≤ length input → x ≡ last_page left p
+    → Ended b input p x full
 unfolding round_page
-end_round b left p x e h = ended [] (h ∙ ap (λ (n : ℕ). last_page n p) e) (λ some. absurd (omega arith))
+end_round b input left full p x e same within h =
+    let c = slice (length b) full input in
+    let none : length c ≤ 0 = omega (arith, length-slice (length b) full input within, e, same) in
+    record {
+      left = omega (arith, e, same);
+      within = within;
+      page = h ∙ ap (λ (n : ℕ). last_page n p) e ∙ sym (cond-true (leb (length c) 0) _ _ (le-leb _ _ none));
+      over = λ some. absurd (omega (arith, e, same, some));
+    }
 
 -- A run before its first read.
 pub first-stands : (s : RunState) (before after : List ℕ) (rows : List (List ℕ)) (ls rs bs ms ns rest : List ℕ) → Zeros rows ls rs bs ms ns
@@ -70,8 +80,10 @@ first-stands s before after rows ls rs bs ms ns rest z b e =
 
 -- A run after one: it goes on, or has gone to its end.
 module _ (out : List ℕ) (p p' : Page) (b : List ℕ) (s : Stands out p b) where
-  pub round_ends : Ended b p p' → Gone out p'
-  round_ends (ended c page over) = round_gone out p p' b c s page over
+  pub round_ends : (input : List ℕ) (full : ℕ) → Ended b input p p' full → Gone out p'
+  round_ends input full g =
+      let c = slice (length b) full input in
+      round_gone out p p' b c s g.page (λ some. g.over (omega (arith, some, length-slice (length b) full input g.within)))
 
   module _ (input : List ℕ) (e : take (length b) input ≡ b) (full : ℕ) (g : Goes b input p p' full) where
     pub round_on : Stands out p' (slice p'.at full input)

@@ -5,7 +5,7 @@
 
 mod refill;
 
-ghost use Rattle.std.specs.Prelude.{◌≤◌, ◌<◌, ◌-◌, IfOk, MatchOption};
+ghost use Rattle.std.specs.{Prelude.{◌≤◌, ◌<◌, ◌-◌, IfOk}, ControlFlow.MatchControlFlow};
 ghost use mathlib.Core.{Path.◌≡◌};
 ghost use lib.{ListN.{length, take}, Seq.slice};
 ghost use Rattle.runfile.specs.Field.{longest_field};
@@ -14,6 +14,7 @@ ghost use Rattle.trace_replay.specs.{Feed.Zeros, Pieces.Gone};
 ghost use Rattle.trace_stream.specs.Round.{Goes, Ended};
 
 use std::io::{Read, Write};
+use std::ops::ControlFlow;
 use trace_field::RunState;
 
 /// Why a trace is not whole.
@@ -26,7 +27,7 @@ enum Fault {
 }
 
 // Reads behind the bytes that are left, and takes them all, or the end of the input. The buffer has room, so a zero-byte read means end of
-// input. Where the run goes on, the answer is how many bytes the input holds, those from `s.at` on left.
+// input. The answer is whether to read on, and how many bytes the input holds: where the run goes on, those from `s.at` on are left.
 fn take_round<R: Read, W: Write>(
     reader: &mut R,
     writer: &mut W,
@@ -40,14 +41,15 @@ fn take_round<R: Read, W: Write>(
     labels: &mut [u32],
     marks: &mut [u64],
     next: &mut [u64],
-) -> Result<Option<usize>, Fault>
+) -> Result<ControlFlow<usize, usize>, Fault>
     requires { (have ≤ length input.old) × (have - s.old.at < length input.old) }
     ensures input_after { take (have - s.old.at) input.new ≡ slice s.old.at have input.old }
-    ensures run_after { IfOk result (λ answer. MatchOption answer
-        (Ended (slice s.old.at have input.old)
-        (page_of s.old out.old rows.old lefts.old rights.old labels.old marks.old next.old)
-        (page_of s.new out.new rows.new lefts.new rights.new labels.new marks.new next.new))
+    ensures run_after { IfOk result (λ turn. MatchControlFlow turn
         (λ full. Goes (slice s.old.at have input.old) input.new
+        (page_of s.old out.old rows.old lefts.old rights.old labels.old marks.old next.old)
+        (page_of s.new out.new rows.new lefts.new rights.new labels.new marks.new next.new)
+        full)
+        (λ full. Ended (slice s.old.at have input.old) input.new
         (page_of s.old out.old rows.old lefts.old rights.old labels.old marks.old next.old)
         (page_of s.new out.new rows.new lefts.new rights.new labels.new marks.new next.new)
         full)) }
@@ -56,7 +58,7 @@ fn take_round<R: Read, W: Write>(
     let full = refill::refill(reader, input, s.at, have)?;
     if full == left {
         trace_pages::end(writer, s, left, out).map_err(|_| Fault::Write)?;
-        return Ok(None);
+        return Ok(ControlFlow::Break(full));
     }
     let bytes = &input[..full];
     trace_pages::take_piece(
@@ -64,9 +66,9 @@ fn take_round<R: Read, W: Write>(
     )
     .map_err(|_| Fault::Write)?;
     if s.over {
-        return Ok(None);
+        return Ok(ControlFlow::Break(full));
     }
-    Ok(Some(full))
+    Ok(ControlFlow::Continue(full))
 }
 
 // Reads and writes until the file ends, or the run. The input is so long that a read always has room behind what is left.
@@ -88,18 +90,17 @@ fn rounds<R: Read, W: Write>(
     ensures { IfOk result (λ s. Gone out.old (page_of s out.new rows.new
         lefts.new rights.new labels.new marks.new next.new)) }
 {
-    let Ok(mut s) = trace_pages::begin(writer, out) else {
-        return Err(Fault::Write);
-    };
+    let (mut s, written) = trace_pages::begin(writer, out);
+    written.map_err(|_| Fault::Write)?;
     let mut have = 0;
     // A proved loop has to end, and nothing says that the input does: a count that no run uses up.
     for _ in 0..u64::MAX {
-        let answer = take_round(
+        let turn = take_round(
             reader, writer, &mut s, input, have, out, rows, lefts, rights, labels, marks, next,
         )?;
-        match answer {
-            Some(full) => have = full,
-            None => return Ok(s),
+        match turn {
+            ControlFlow::Continue(full) => have = full,
+            ControlFlow::Break(_) => return Ok(s),
         }
     }
     Err(Fault::Count)

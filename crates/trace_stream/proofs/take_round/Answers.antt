@@ -7,7 +7,9 @@ use Rattle.trace_stream.proofs.take_round.Goals as goal
 pub returns-then-full-left-clause-run_after : goal.returns-then-full-left-clause-run_after
 returns-then-full-left-clause-run_after g c =
     let as_many = length-slice c.args.s.now.at c.args.have c.args.input.now c.requires.0 in
-    end_round _ _ _ _ (c.saturating_sub-left.ensures ∙ sym as_many) (c.end.ensures _ _ _ _ _ _)
+    let full = c.in_ok-full.ensures.full in
+    let within : c.in_ok-full.full ≤ length c.refill.new.input = omega (arith, full) in
+    end_round _ _ _ _ _ _ (c.saturating_sub-left.ensures ∙ sym as_many) c.if-full-left.true within (c.end.ensures _ _ _ _ _ _)
 
 pub returns-then-s-clause-run_after : goal.returns-then-s-clause-run_after
 returns-then-s-clause-run_after g c =

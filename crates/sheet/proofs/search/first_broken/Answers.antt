@@ -3,7 +3,7 @@ use Rattle.std.proofs.Common.{sym, ap, ◌∙◌, ℕ, ◌&&◌, ◌+◌, ◌-�
 use mathlib.Core.Path.{ap₂}
 use lib.Dec.{leb}
 use Rattle.sheet.specs.{Squares.crossed, Search.{in_row, in_rows}}
-use Rattle.sheet.proofs.Turns.{crossed-at, row_here, row_on, row_end, rows_on, rows_end, all_left}
+use Rattle.sheet.proofs.Turns.{crossed-here, row_here, row_on, row_end, rows_on, rows_end, all_left}
 use Rattle.sheet.proofs.search.first_broken.Goals as goal
 
 pub loop-b-init : goal.loop-b-init
@@ -25,7 +25,7 @@ returns-then-has-seen g c =
     let e = c.args.seen.now in
     let row : a < length c.args.square.now = omega arith in
     row_here c.args.n b (crossed g.R.Marks.kind c.args.square.now e.low e.high) (a + 1) _ c.loop-b-test.true
-    (crossed-at g.R.Marks.kind c.args.square.now a row e.low e.high b c.index-square-a.result c.index-square-a.is
+    (crossed-here g.R.Marks.kind c.args.square.now a row e.low e.high b c.index-square-a.result c.index-square-a.is
     ∙ ap (λ t. t && leb (get_or e.low b 0) (get_or e.high a 0)) (sym c.has.ensures) ∙ c.if-has-seen.true)
     ∙ c.loop-b.invariant.0
 
@@ -36,7 +36,7 @@ loop-b-preserved g c =
     let e = c.args.seen.now in
     let row : a < length c.args.square.now = omega arith in (
       row_on c.args.n b (crossed g.R.Marks.kind c.args.square.now e.low e.high) (a + 1) _ c.loop-b-test.true
-          (crossed-at g.R.Marks.kind c.args.square.now a row e.low e.high b c.index-square-a.result c.index-square-a.is
+          (crossed-here g.R.Marks.kind c.args.square.now a row e.low e.high b c.index-square-a.result c.index-square-a.is
           ∙ ap (λ t. t && leb (get_or e.low b 0) (get_or e.high a 0)) (sym c.has.ensures) ∙ c.if-has-seen.false)
           ∙ c.loop-b.invariant.0,
       c.loop-b.invariant.1,
