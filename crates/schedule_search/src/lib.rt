@@ -107,7 +107,7 @@ pub fn search(
         let ws = given.old in
         sought 48 ws (seeking ws len 48 false q) q) }
 {
-    // Each row is stored in its place: both in an array of their own are copied into it by a call of memcpy.
+    // The rows are stored one by one: written as `[a, b]`, both are made apart and copied in by a call of memcpy.
     let mut rows = Rows {
         control,
         pair: [[0; layout::RECORD_WORDS]; 2],

@@ -20,7 +20,7 @@ fn flush<W: Write>(writer: &mut W, out: &[u8], to: usize) -> io::Result<()>
     writer.write_all(&out[..to])
 }
 
-/// The trace's first line, and whether it was written out.
+/// A run before its first field, with the trace's first line in the buffer; and whether that line was written out.
 pub fn begin<W: Write>(writer: &mut W, out: &mut [u8]) -> (RunState, io::Result<()>)
     ensures begins { Begins out.old out.new result.0 }
     ensures out_after { out.new ≡ (first_page out.old).out }

@@ -5,13 +5,13 @@
 
 mod refill;
 
-ghost use Rattle.std.specs.{Prelude.{◌≤◌, ◌<◌, ◌-◌, IfOk}, ControlFlow.MatchControlFlow};
+ghost use Rattle.std.specs.Prelude.{◌≤◌, ◌<◌, ◌-◌, IfOk};
 ghost use mathlib.Core.{Path.◌≡◌};
 ghost use lib.{ListN.{length, take}, Seq.slice};
 ghost use Rattle.runfile.specs.Field.{longest_field};
 ghost use Rattle.trace_field.specs.Page.{page_of, field_room};
 ghost use Rattle.trace_replay.specs.{Feed.Zeros, Pieces.Gone};
-ghost use Rattle.trace_stream.specs.Round.{Goes, Ended};
+ghost use Rattle.trace_stream.specs.Round.{Round};
 
 use std::io::{Read, Write};
 use std::ops::ControlFlow;
@@ -44,15 +44,9 @@ fn take_round<R: Read, W: Write>(
 ) -> Result<ControlFlow<usize, usize>, Fault>
     requires { (have ≤ length input.old) × (have - s.old.at < length input.old) }
     ensures input_after { take (have - s.old.at) input.new ≡ slice s.old.at have input.old }
-    ensures run_after { IfOk result (λ turn. MatchControlFlow turn
-        (λ full. Goes (slice s.old.at have input.old) input.new
+    ensures run_after { IfOk result (Round (slice s.old.at have input.old) input.new
         (page_of s.old out.old rows.old lefts.old rights.old labels.old marks.old next.old)
-        (page_of s.new out.new rows.new lefts.new rights.new labels.new marks.new next.new)
-        full)
-        (λ full. Ended (slice s.old.at have input.old) input.new
-        (page_of s.old out.old rows.old lefts.old rights.old labels.old marks.old next.old)
-        (page_of s.new out.new rows.new lefts.new rights.new labels.new marks.new next.new)
-        full)) }
+        (page_of s.new out.new rows.new lefts.new rights.new labels.new marks.new next.new)) }
 {
     let left = have.saturating_sub(s.at);
     let full = refill::refill(reader, input, s.at, have)?;
